@@ -1,0 +1,133 @@
+-- One attempt of the paged machine beside one of the flat machine it stands for (`came`); what an attempt misses (`missed`); and a
+-- good machine stays good when an attempt is carried out (`set-good`, `store-good`).
+use mathlib.Core.Path.{_≡_, refl, sym, ap, ap₂, subst, subst⁻¹, _∙_}
+use mathlib.Core.Bool.{Bool, true, false, false≢true}
+use mathlib.Core.List.{List}
+use Prim.Native.Nat.{ℕ, _<_}
+use native.Mathlib.Omega.{arith}
+use lib.Dec.{eqb}
+use lib.ListN.{getD, set}
+use lib.Seq.{getD-set-other}
+use Rattle.model.specs.Choice.{if_then_else_}
+use Rattle.model.specs.Words.{aligned}
+use Rattle.model.specs.Bytes.{number, store}
+use Rattle.model.specs.Pages.{pageOf}
+use Rattle.model.specs.Table.{entry, ppx, valid}
+use Rattle.model.specs.Frames.{pageIn}
+use Rattle.model.specs.Instruction.{plan, written}
+use Rattle.model.specs.Attempt.{Tried, Width, size}
+use Rattle.model.specs.State.{State}
+use Rattle.model.specs.Translate.{translate}
+use Rattle.model.specs.Run.{try, carried}
+use Rattle.model.specs.Flat.{Flat, allow, flatBytes, flatRights, flat, flatTry, flatPut}
+use Rattle.model.specs.declared.Shape.{Shape}
+use Rattle.model.specs.declared.FrameBook.{FrameBook}
+use Rattle.model.specs.declared.VirtualPage.{VirtualPage}
+use Rattle.model.specs.declared.Pcs.{Pcs}
+use Rattle.model.specs.declared.Access.the-variants.{At}
+use Rattle.model.specs.declared.Outcome.the-variants.{Done, Missing}
+use Rattle.laws.specs.Good.{Fit, Seated, Good}
+use Rattle.laws.proofs.Bytes.{length-store}
+use Rattle.laws.proofs.Access.{Absent, absent, legal, permits, illegal, reads}
+use Rattle.laws.proofs.Stores.{entry-kept, rights-kept, bytes-kept}
+use Rattle.laws.proofs.Agree.{address, Both, halts, misses-code, misses-data, sets, stores, traps, attempt-both}
+
+-- what the attempts of the two machines come to
+abbrev pub Came : State → Tried → Tried → Type 0
+Came p =
+    Both (translate (p .machine .shape) (p .memory .main)) (p .memory .main) (allow (flatRights (p .machine .shape) (p .memory .main)))
+    (flatBytes (p .machine .shape) (p .memory)) (p .machine .gpr) (p .machine .pcs)
+
+pub came : (p : State) → Came p (try p) (flatTry (flat p))
+unfolding flat
+came p =
+    attempt-both _ _ _ _ _ _ (record {
+      illegal = illegal (p .machine .shape) (p .memory);
+      permits = permits (p .machine .shape) (p .memory);
+      legal = legal (p .machine .shape) (p .memory);
+      reads = reads (p .machine .shape) (p .memory);
+    })
+
+-- ---- why an attempt misses the page of va
+pub data Misses (p : State) (va : ℕ) : Type 0 where
+  for-code : va ≡ p .machine .pcs .dpc → Absent (p .machine .shape) (p .memory .main) false va → Misses p va
+  for-data : (writing : Bool) (pcs : Pcs) → va ≡ address (plan (p .machine .gpr) (p .machine .pcs .next) (number 4 (flatBytes (p .machine .shape) (p .memory)) (p .machine .pcs .dpc)))
+      → Absent (p .machine .shape) (p .memory .main) writing va → flatTry (flat p) .outcome ≡ Done pcs → Misses p va
+
+-- two outcomes that are none
+pub clash : {A : Type 0} → _≡_ {A = ℕ} 0 1 → A
+clash z = absurd (omega arith)
+
+pub missed : (p : State) (va : ℕ) → try p .outcome ≡ Missing va → Misses p va
+missed p va e = by (try p) (flatTry (flat p)) (came p) e refl
+  where
+    by : (t t′ : Tried) → Came p t t′ → t .outcome ≡ Missing va → flatTry (flat p) .outcome ≡ t′ .outcome → Misses p va
+    by t t′ (halts h) q r = clash (cc)
+    by t t′ (misses-code f) q r =
+        let z : p .machine .pcs .dpc ≡ va = cc in
+        for-code (sym z) (subst (λ (v : ℕ). Absent (p .machine .shape) (p .memory .main) false v) z (absent (p .machine .shape) (p .memory .main) false _ f))
+    by t t′ (misses-data {va = at} {p = pcs} writing f a) q r =
+        let z : at ≡ va = cc in
+        for-data writing pcs (sym z ∙ a) (subst (λ (v : ℕ). Absent (p .machine .shape) (p .memory .main) writing v) z (absent (p .machine .shape) (p .memory .main) writing at f)) r
+    by t t′ (sets rd v target) q r = clash (cc)
+    by t t′ (stores width at i v a f) q r = clash (cc)
+    by t t′ (traps n) q r = clash (cc)
+
+pub missing : (p : State) (va : ℕ) → try p .outcome ≡ Missing va
+    → (pageOf va .0 < p .machine .shape .ptl) × (valid (entry (p .machine .shape) (p .memory .main) (pageOf va)) ≡ false)
+missing p va e = by (missed p va e)
+  where
+    by : Misses p va → (pageOf va .0 < p .machine .shape .ptl) × (valid (entry (p .machine .shape) (p .memory .main) (pageOf va)) ≡ false)
+    by (for-code q a) = (a .inside, a .away)
+    by (for-data writing pcs q a d) = (a .inside, a .away)
+
+-- ---- what is carried out leaves a good machine
+zero-kept : (gpr : List ℕ) (i v : ℕ) → getD gpr 0 0 ≡ 0 → getD (written gpr i v) 0 0 ≡ 0
+zero-kept gpr i v z = pick (eqb i 0) refl
+  where
+    pick : (c : Bool) → eqb i 0 ≡ c → getD (if c then gpr else set gpr i v) 0 0 ≡ 0
+    pick true e = z
+    pick false e = getD-set-other gpr i 0 v 0 (λ q. false≢true (sym e ∙ ap (λ (k : ℕ). eqb k 0) (sym q))) ∙ z
+
+-- the facts of the table go over to a main memory with the same entries
+seated-over : (s : Shape) (b : FrameBook) (main main′ : List ℕ) → ((x : VirtualPage) → x .0 < s .ptl → entry s main′ x ≡ entry s main x)
+    → Seated s b main → Seated s b main′
+seated-over s b main main′ e g = record {
+  array = g .array;
+  used-most = g .used-most;
+  in-table = g .in-table;
+  differ = g .differ;
+  rest = g .rest;
+  here = λ i q. ap valid (e (pageIn b i) (g .in-table i q)) ∙ g .here i q;
+  frame-of = λ i q. ap (λ (k : ℕ). ppx k .0) (e (pageIn b i) (g .in-table i q)) ∙ g .frame-of i q;
+  only = λ x q v. g .only x q (ap valid (sym (e x q)) ∙ v);
+  hand-still = g .hand-still;
+  hand-most = g .hand-most;
+}
+
+module _ (p : State) (g : Good p) (pcs : Pcs) where
+  pub set-good : (i v : ℕ) → Good (carried p pcs (written (p .machine .gpr) i v) (p .memory .main))
+  set-good i v = record { fit = g .fit; whole = g .whole; seated = g .seated; zero = zero-kept (p .machine .gpr) i v (g .zero) }
+
+  pub trap-good : Good (carried p pcs (p .machine .gpr) (p .memory .main))
+  trap-good = record { fit = g .fit; whole = g .whole; seated = g .seated; zero = g .zero }
+
+  pub store-good : (width : Width) (va i v : ℕ) → aligned (size width) va ≡ true → translate (p .machine .shape) (p .memory .main) true va ≡ At i
+      → Good (carried p pcs (p .machine .gpr) (store (size width) (p .memory .main) i v))
+  store-good width va i v a q = record {
+    fit = subst⁻¹ (λ (n : ℕ). Fit (p .machine .shape) n) (length-store (size width) (p .memory .main) i v) (g .fit);
+    whole = g .whole;
+    seated = seated-over (p .machine .shape) (p .machine .book) (p .memory .main) (store (size width) (p .memory .main) i v)
+        (entry-kept (p .machine .shape) (p .machine .book) (p .memory) (g .fit) (g .seated) width va i v a q) (g .seated);
+    zero = g .zero;
+  }
+
+  -- a store is that store in the flat memory
+  pub store-flat : (width : Width) (va i v : ℕ) → aligned (size width) va ≡ true → translate (p .machine .shape) (p .memory .main) true va ≡ At i
+      → flat (carried p pcs (p .machine .gpr) (store (size width) (p .memory .main) i v))
+      ≡ flatPut (flat p) pcs (p .machine .gpr) (store (size width) (flatBytes (p .machine .shape) (p .memory)) va v)
+  unfolding flat
+  store-flat width va i v a q =
+      ap₂ {C = Flat} (λ bytes rights. record { gpr = p .machine .gpr; pcs = pcs; bytes = bytes; rights = rights })
+      (bytes-kept (p .machine .shape) (p .machine .book) (p .memory) (g .fit) (g .seated) width va i v a q)
+      (rights-kept (p .machine .shape) (p .machine .book) (p .memory) (g .fit) (g .seated) width va i v a q)

@@ -1,0 +1,130 @@
+-- The memories after the handler loaded a page that is in swap: lengths, entries, and no flat byte changes.
+use mathlib.Core.Path.{_≡_, sym, ap, subst⁻¹, _∙_}
+use mathlib.Core.Bool.{true, false, true≢false}
+use Prim.Native.Nat.{ℕ, _+_, _<_, _≤_}
+use native.Mathlib.Omega.{arith}
+use native.Mathlib.Decide.{decLt}
+use borrow.Author.Tests.{lt-ltb, le-ltb}
+use lib.ListN.{length}
+use Rattle.model.specs.Pages.{pageOf, frameAt}
+use Rattle.model.specs.Table.{entry, ppx, valid, putOut, broughtTo}
+use Rattle.model.specs.Frames.{pageIn, frame}
+use Rattle.model.specs.State.{Memory}
+use Rattle.model.specs.Translate.{flatByte}
+use Rattle.model.specs.Handler.{out, into, loaded}
+use Rattle.model.specs.declared.Shape.{Shape}
+use Rattle.model.specs.declared.FrameBook.{FrameBook}
+use Rattle.model.specs.declared.VirtualPage.{VirtualPage}
+use Rattle.laws.specs.Good.{Fit, SwapLong, Seated}
+use Rattle.laws.proofs.Seated.{in-frames, apart}
+use Rattle.laws.proofs.Entries.{valid-out}
+use Rattle.laws.proofs.Moves.{page-discrete, out-main-long, out-swap-long, out-fit, out-whole, out-same, out-other, out-flat, into-main-long, into-swap-long, into-same, into-other, into-flat}
+use Rattle.laws.proofs.Seats.{frame-free, frame-full}
+
+-- ---- the two cases: a frame is free, or none is
+pub loaded-free : (s : Shape) (b : FrameBook) (m : Memory) (y : VirtualPage) → b .used < s .frames → loaded s b m y ≡ into s m (b .used) y
+unfolding loaded
+loaded-free s b m y q = rw (loaded, lt-ltb _ _ q)
+
+pub loaded-full : (s : Shape) (b : FrameBook) (m : Memory) (y : VirtualPage) → s .frames ≤ b .used
+    → loaded s b m y ≡ into s (out s m (b .hand) (pageIn b (b .hand))) (b .hand) y
+unfolding loaded
+loaded-full s b m y q = rw (loaded, le-ltb _ _ q)
+
+-- ---- the memories after page y came into frame f
+pub record Loads (s : Shape) (b : FrameBook) (m : Memory) (y : VirtualPage) (m′ : Memory) (f : ℕ) : Type 0 where
+  pub main-long : length (m′ .main) ≡ length (m .main)
+  pub swap-long : length (m′ .swap) ≡ length (m .swap)
+  pub new : entry s (m′ .main) y ≡ broughtTo (frameAt s f) (entry s (m .main) y)
+  pub gone : s .frames ≤ b .used → entry s (m′ .main) (pageIn b (b .hand)) ≡ putOut (entry s (m .main) (pageIn b (b .hand)))
+  pub stays : (z : VirtualPage) → z .0 < s .ptl → (z ≡ y → ⊥) → (s .frames ≤ b .used → z ≡ pageIn b (b .hand) → ⊥)
+      → entry s (m′ .main) z ≡ entry s (m .main) z
+  pub bytes : (va : ℕ) → pageOf va .0 < s .ptl → flatByte s m′ va ≡ flatByte s m va
+
+module _ (s : Shape) (b : FrameBook) (m : Memory) (h : Fit s (length (m .main))) (w : SwapLong s (length (m .swap))) (g : Seated s b (m .main))
+    (y : VirtualPage) (hy : y .0 < s .ptl) (hv : valid (entry s (m .main) y) ≡ false) where
+  -- y is in no frame
+  pub strange : (i : ℕ) → i < b .used → y ≡ pageIn b i → ⊥
+  strange i q e = true≢false (sym (g .here i q) ∙ ap (λ z. valid (entry s (m .main) z)) (sym e) ∙ hv)
+
+  loads-free : b .used < s .frames → Loads s b m y (into s m (b .used) y) (b .used)
+  loads-free q = record {
+    main-long = into-main-long s m h w (b .used) y q hy;
+    swap-long = into-swap-long s m h w (b .used) y q hy;
+    new = into-same s m h w (b .used) y q hy;
+    gone = λ r. absurd (omega (arith, q, r));
+    stays = λ z hz n k. into-other s m h w (b .used) y q hy z hz n;
+    bytes = into-flat s m h w (b .used) y q hy hv (λ z hz v. (in-frames s b (m .main) g z hz v .0, λ e. vacant z hz v e));
+  }
+    where
+      vacant : (z : VirtualPage) → z .0 < s .ptl → valid (entry s (m .main) z) ≡ true → ppx (entry s (m .main) z) .0 ≡ s .abase + b .used → ⊥
+      vacant z hz v e =
+          let t : (i : ℕ) × (i < b .used) × (pageIn b i ≡ z) = g .only z hz v in
+          let c : s .abase + t .0 ≡ s .abase + b .used
+          = sym (ap (λ x. ppx (entry s (m .main) x) .0) (sym (t .2)) ∙ g .frame-of (t .0) (t .1)) ∙ e in
+          omega (arith, c, t .1)
+
+  loads-full : s .frames ≤ b .used → Loads s b m y (into s (out s m (b .hand) (pageIn b (b .hand))) (b .hand) y) (b .hand)
+  loads-full q = record {
+    main-long = into-main-long s m₁ fit₁ whole₁ f y hf hy ∙ out-main-long s m h w f x hf hx;
+    swap-long = into-swap-long s m₁ fit₁ whole₁ f y hf hy ∙ out-swap-long s m h w f x hf hx;
+    new = into-same s m₁ fit₁ whole₁ f y hf hy ∙ ap (broughtTo (frameAt s f)) (other y (strange f inf));
+    gone = λ r. into-other s m₁ fit₁ whole₁ f y hf hy x hx (λ e. strange f inf (sym e)) ∙ same;
+    stays = λ z hz n k. into-other s m₁ fit₁ whole₁ f y hf hy z hz n ∙ other z (k q);
+    bytes = λ va hva.
+        into-flat s m₁ fit₁ whole₁ f y hf hy (ap valid (other y (strange f inf)) ∙ hv) vacant va hva
+        ∙ out-flat s m h w f x hf hx (g .here f inf) (g .frame-of f inf) (λ z hz v. in-frames s b (m .main) g z hz v .0) va hva;
+  }
+    where
+      f : ℕ
+      f = b .hand
+
+      x : VirtualPage
+      x = pageIn b f
+
+      hf : f < s .frames
+      hf = g .hand-most
+
+      inf : f < b .used
+      inf = omega (arith, q, g .hand-most)
+
+      hx : x .0 < s .ptl
+      hx = g .in-table f inf
+
+      m₁ : Memory
+      m₁ = out s m f x
+
+      fit₁ : Fit s (length (m₁ .main))
+      fit₁ = out-fit s m h w f x hf hx
+
+      whole₁ : SwapLong s (length (m₁ .swap))
+      whole₁ = out-whole s m h w f x hf hx
+
+      same : entry s (m₁ .main) x ≡ putOut (entry s (m .main) x)
+      same = out-same s m h w f x hf hx
+
+      other : (z : VirtualPage) → (z ≡ x → ⊥) → entry s (m₁ .main) z ≡ entry s (m .main) z
+      other = out-other s m h w f x hf hx
+
+      vacant : (z : VirtualPage) → z .0 < s .ptl → valid (entry s (m₁ .main) z) ≡ true
+          → (s .abase ≤ ppx (entry s (m₁ .main) z) .0) × (ppx (entry s (m₁ .main) z) .0 ≡ s .abase + f → ⊥)
+      vacant z hz v = pick (page-discrete z x)
+        where
+          pick : Dec (z ≡ x) → (s .abase ≤ ppx (entry s (m₁ .main) z) .0) × (ppx (entry s (m₁ .main) z) .0 ≡ s .abase + f → ⊥)
+          pick (yes e) =
+              absurd (true≢false (sym v ∙ ap (λ k. valid (entry s (m₁ .main) k)) e ∙ ap valid same ∙ valid-out (entry s (m .main) x)))
+          pick (no e) =
+              let c : entry s (m₁ .main) z ≡ entry s (m .main) z = other z e in
+              let v′ : valid (entry s (m .main) z) ≡ true = ap valid (sym c) ∙ v in (
+                subst⁻¹ (λ (k : ℕ). s .abase ≤ ppx k .0) c (in-frames s b (m .main) g z hz v′ .0),
+                λ d. e (apart s b (m .main) g z x hz hx v′ (g .here f inf) (ap (λ (k : ℕ). ppx k .0) (sym c) ∙ d ∙ sym (g .frame-of f inf))),
+              )
+
+  pub moved : Loads s b m y (loaded s b m y) (frame (s .frames) b)
+  moved = pick (decLt (b .used) (s .frames))
+    where
+      pick : Dec (b .used < s .frames) → Loads s b m y (loaded s b m y) (frame (s .frames) b)
+      pick (yes q) = rw (loaded-free s b m y q, frame-free (s .frames) b q) (loads-free q)
+      pick (no n) =
+          let q : s .frames ≤ b .used = omega (arith, n) in
+          rw (loaded-full s b m y q, frame-full (s .frames) b q) (loads-full q)

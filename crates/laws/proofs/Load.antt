@@ -1,0 +1,191 @@
+-- One load of the handler, of a page that is in swap: the book and the table stay in step, the page is valid afterwards, only the
+-- victim goes, and no flat byte, no right and no register changes.
+use mathlib.Core.Path.{_≡_, sym, ap, ap₂, subst⁻¹, _∙_}
+use mathlib.Core.Bool.{true, false, true≢false}
+use Prim.Native.Nat.{ℕ, _+_, _*_, _<_, _≤_}
+use native.Mathlib.Omega.{arith}
+use native.Mathlib.Decide.{decLt, ℕ-discrete}
+use lib.ListN.{length}
+use Rattle.model.specs.Pages.{pageOf, virtual, frameAt}
+use Rattle.model.specs.Table.{entry, ppx, valid}
+use Rattle.model.specs.Frames.{pageIn, frame, advanced}
+use Rattle.model.specs.State.{Memory, State}
+use Rattle.model.specs.Translate.{flatByte}
+use Rattle.model.specs.Handler.{loaded, load}
+use Rattle.model.specs.Flat.{Flat, flat, rightsByte}
+use Rattle.model.specs.declared.Shape.{Shape}
+use Rattle.model.specs.declared.FrameBook.{FrameBook}
+use Rattle.model.specs.declared.VirtualPage.{VirtualPage}
+use Rattle.laws.specs.Good.{Fit, SwapLong, Seated, Good}
+use Rattle.laws.proofs.Choice.{below-same}
+use Rattle.laws.proofs.Entries.{ppx-brought, valid-brought, valid-out, rights-brought, rights-out}
+use Rattle.laws.proofs.Moves.{page-discrete}
+use Rattle.laws.proofs.Seats.{Booked, Seats, seats}
+use Rattle.laws.proofs.Handler.{Loads, strange, moved}
+-- the two cases of the definitions
+pub use Rattle.laws.proofs.Seats.{advanced-free, advanced-full}
+pub use Rattle.laws.proofs.Handler.{loaded-free, loaded-full}
+
+-- ---- one load: page y is in the table and not valid
+pub record Loaded (s : Shape) (b : FrameBook) (m : Memory) (y : VirtualPage) : Type 0 where
+  pub main-long : length (loaded s b m y .main) ≡ length (m .main)
+  pub swap-long : length (loaded s b m y .swap) ≡ length (m .swap)
+  pub seated : Seated s (advanced (s .frames) b y) (loaded s b m y .main)
+  pub here : valid (entry s (loaded s b m y .main) y) ≡ true
+  pub stays : (z : VirtualPage) → z .0 < s .ptl → (z ≡ y → ⊥) → (s .frames ≤ b .used → z ≡ pageIn b (b .hand) → ⊥)
+      → entry s (loaded s b m y .main) z ≡ entry s (m .main) z
+  pub gone : s .frames ≤ b .used → valid (entry s (loaded s b m y .main) (pageIn b (b .hand))) ≡ false
+  pub bytes : (va : ℕ) → pageOf va .0 < s .ptl → flatByte s (loaded s b m y) va ≡ flatByte s m va
+  pub rights : (z : VirtualPage) → z .0 < s .ptl → rightsByte (entry s (loaded s b m y .main) z) ≡ rightsByte (entry s (m .main) z)
+  pub put : pageIn (advanced (s .frames) b y) (frame (s .frames) b) ≡ y
+  pub in-use : frame (s .frames) b < advanced (s .frames) b y .used
+  -- "the page loaded last is never the victim"
+  pub moves : frame (s .frames) (advanced (s .frames) b y) ≡ frame (s .frames) b → ⊥
+
+module _ (s : Shape) (b : FrameBook) (m : Memory) (h : Fit s (length (m .main))) (w : SwapLong s (length (m .swap))) (g : Seated s b (m .main))
+    (y : VirtualPage) (hy : y .0 < s .ptl) (hv : valid (entry s (m .main) y) ≡ false) where
+  nowhere : (i : ℕ) → i < b .used → y ≡ pageIn b i → ⊥
+  nowhere = strange s b m h w g y hy hv
+
+  booked : Booked (s .frames) b
+  booked = record {
+    two = h .frames-least;
+    most = h .frames-most;
+    array = g .array;
+    used-most = g .used-most;
+    hand-still = g .hand-still;
+    hand-most = g .hand-most;
+  }
+
+  -- ---- the book and the table afterwards
+  module _ (b′ : FrameBook) (m′ : Memory) (f : ℕ) (l : Loads s b m y m′ f) (t : Seats (s .frames) b y b′ f) where
+    -- the entry of a page that stays
+    kept : (i : ℕ) → i < b .used → (i ≡ f → ⊥) → entry s (m′ .main) (pageIn b i) ≡ entry s (m .main) (pageIn b i)
+    kept i q n =
+        l .stays (pageIn b i) (g .in-table i q) (λ e. nowhere i q (sym e))
+        (λ r e. n (g .differ i (b .hand) q (omega (arith, r, g .hand-most)) e ∙ sym (t .full r)))
+
+    valid-new : valid (entry s (m′ .main) y) ≡ true
+    valid-new = ap valid (l .new) ∙ valid-brought (frameAt s f) (entry s (m .main) y)
+
+    valid-gone : s .frames ≤ b .used → valid (entry s (m′ .main) (pageIn b (b .hand))) ≡ false
+    valid-gone r = ap valid (l .gone r) ∙ valid-out (entry s (m .main) (pageIn b (b .hand)))
+
+    -- by cases: the frame, or another
+    at-frame : (P : ℕ → VirtualPage → Type 0) → P f y → ((i : ℕ) → i < b .used → (i ≡ f → ⊥) → P i (pageIn b i))
+        → (i : ℕ) → i < b′ .used → P i (pageIn b′ i)
+    at-frame P pf pi i q = pick (ℕ-discrete i f)
+      where
+        pick : Dec (i ≡ f) → P i (pageIn b′ i)
+        pick (yes e) = subst⁻¹ (λ (z : ℕ). P z (pageIn b′ z)) e (subst⁻¹ (P f) (t .put) pf)
+        pick (no n) = subst⁻¹ (P i) (t .stay i n) (pi i (t .before i q n) n)
+
+    only′ : (x : VirtualPage) → x .0 < s .ptl → valid (entry s (m′ .main) x) ≡ true → (i : ℕ) × (i < b′ .used) × (pageIn b′ i ≡ x)
+    only′ x hx v = pick (page-discrete x y)
+      where
+        victim : s .frames ≤ b .used → x ≡ pageIn b (b .hand) → ⊥
+        victim r e = true≢false (sym v ∙ ap (λ z. valid (entry s (m′ .main) z)) e ∙ valid-gone r)
+
+        elsewhere : (u : (i : ℕ) × (i < b .used) × (pageIn b i ≡ x)) → Dec (b .used < s .frames) → u .0 ≡ f → ⊥
+        elsewhere u (yes r) e = omega (arith, e, t .fresh r, u .1)
+        elsewhere u (no r) e =
+            let q : s .frames ≤ b .used = omega (arith, r) in
+            victim q (sym (u .2) ∙ ap (pageIn b) (e ∙ t .full q))
+
+        pick : Dec (x ≡ y) → (i : ℕ) × (i < b′ .used) × (pageIn b′ i ≡ x)
+        pick (yes e) = (f, t .in-use, t .put ∙ sym e)
+        pick (no n) =
+            let u : (i : ℕ) × (i < b .used) × (pageIn b i ≡ x) = g .only x hx (ap valid (sym (l .stays x hx n victim)) ∙ v) in
+            (u .0, omega (arith, u .1, t .grown), t .stay (u .0) (elsewhere u (decLt (b .used) (s .frames))) ∙ u .2)
+
+    differ′ : (i j : ℕ) → i < b′ .used → j < b′ .used → pageIn b′ i ≡ pageIn b′ j → i ≡ j
+    differ′ i j q r e = pick (ℕ-discrete i f) (ℕ-discrete j f)
+      where
+        pick : Dec (i ≡ f) → Dec (j ≡ f) → i ≡ j
+        pick (yes a) (yes c) = a ∙ sym c
+        pick (yes a) (no c) = absurd (nowhere j (t .before j r c) (sym (ap (pageIn b′) a ∙ t .put) ∙ e ∙ t .stay j c))
+        pick (no a) (yes c) = absurd (nowhere i (t .before i q a) (sym (ap (pageIn b′) c ∙ t .put) ∙ sym e ∙ t .stay i a))
+        pick (no a) (no c) = g .differ i j (t .before i q a) (t .before j r c) (sym (t .stay i a) ∙ e ∙ t .stay j c)
+
+    seated′ : Seated s b′ (m′ .main)
+    seated′ = record {
+      array = t .booked .array;
+      used-most = t .booked .used-most;
+      in-table = at-frame (λ i z. z .0 < s .ptl) hy (λ i q n. g .in-table i q);
+      differ = differ′;
+      rest = λ i q r. t .stay i (λ e. omega (arith, e, t .in-use, q)) ∙ g .rest i (omega (arith, t .grown, q)) r;
+      here = at-frame (λ i z. valid (entry s (m′ .main) z) ≡ true) valid-new (λ i q n. ap valid (kept i q n) ∙ g .here i q);
+      frame-of = at-frame (λ i z. ppx (entry s (m′ .main) z) .0 ≡ s .abase + i)
+          (ap (λ (k : ℕ). ppx k .0) (l .new)
+          ∙ ppx-brought (frameAt s f) (entry s (m .main) y) (omega (arith, h .frames-in, h .pages-most, t .in-use, t .booked .used-most)))
+          (λ i q n. ap (λ (k : ℕ). ppx k .0) (kept i q n) ∙ g .frame-of i q);
+      only = only′;
+      hand-still = t .booked .hand-still;
+      hand-most = t .booked .hand-most;
+    }
+
+    -- "r and w stay"
+    rights′ : (z : VirtualPage) → z .0 < s .ptl → rightsByte (entry s (m′ .main) z) ≡ rightsByte (entry s (m .main) z)
+    rights′ z hz = pick (page-discrete z y) (page-discrete z (pageIn b (b .hand))) (decLt (b .used) (s .frames))
+      where
+        pick : Dec (z ≡ y) → Dec (z ≡ pageIn b (b .hand)) → Dec (b .used < s .frames)
+            → rightsByte (entry s (m′ .main) z) ≡ rightsByte (entry s (m .main) z)
+        pick (yes e) d c =
+            ap (λ x. rightsByte (entry s (m′ .main) x)) e ∙ ap rightsByte (l .new) ∙ rights-brought (frameAt s f) (entry s (m .main) y)
+            ∙ ap (λ x. rightsByte (entry s (m .main) x)) (sym e)
+        pick (no n) (yes e) (no c) =
+            ap (λ x. rightsByte (entry s (m′ .main) x)) e ∙ ap rightsByte (l .gone (omega (arith, c))) ∙ rights-out (entry s (m .main) (pageIn b (b .hand)))
+            ∙ ap (λ x. rightsByte (entry s (m .main) x)) (sym e)
+        pick (no n) (yes e) (yes c) = ap rightsByte (l .stays z hz n (λ q r. omega (arith, c, q)))
+        pick (no n) (no d) c = ap rightsByte (l .stays z hz n (λ q r. d r))
+
+  pub loads : Loaded s b m y
+  loads = record {
+    main-long = l .main-long;
+    swap-long = l .swap-long;
+    seated = seated′ b′ m′ f l t;
+    here = valid-new b′ m′ f l t;
+    stays = l .stays;
+    gone = valid-gone b′ m′ f l t;
+    bytes = l .bytes;
+    rights = rights′ b′ m′ f l t;
+    put = t .put;
+    in-use = t .in-use;
+    moves = t .moves;
+  }
+    where
+      b′ : FrameBook
+      b′ = advanced (s .frames) b y
+
+      m′ : Memory
+      m′ = loaded s b m y
+
+      f : ℕ
+      f = frame (s .frames) b
+
+      l : Loads s b m y m′ f
+      l = moved s b m h w g y hy hv
+
+      t : Seats (s .frames) b y b′ f
+      t = seats (s .frames) b y booked
+
+-- ---- a whole state
+module _ (p : State) (g : Good p) (y : VirtualPage) (hy : y .0 < p .machine .shape .ptl) (hv : valid (entry (p .machine .shape) (p .memory .main) y) ≡ false) where
+  one-load : Loaded (p .machine .shape) (p .machine .book) (p .memory) y
+  one-load = loads (p .machine .shape) (p .machine .book) (p .memory) (g .fit) (g .whole) (g .seated) y hy hv
+
+  pub load-good : Good (load p y)
+  unfolding load
+  load-good = record {
+    fit = subst⁻¹ (λ (n : ℕ). Fit (p .machine .shape) n) (one-load .main-long) (g .fit);
+    whole = one-load .swap-long ∙ g .whole;
+    seated = one-load .seated;
+    zero = g .zero;
+  }
+
+  pub load-flat : flat (load p y) ≡ flat p
+  unfolding load flat
+  load-flat =
+      ap₂ {C = Flat} (λ bytes rights. record { gpr = p .machine .gpr; pcs = p .machine .pcs; bytes = bytes; rights = rights })
+      (below-same (4096 * p .machine .shape .ptl) _ _ (λ va q. one-load .bytes va (omega (arith, q))))
+      (below-same (p .machine .shape .ptl) _ _ (λ x q. one-load .rights (virtual x) q))

@@ -1,0 +1,73 @@
+-- "All other bytes stay": outside the frames a load changes main memory only in the entries of the page that comes and of the one that
+-- leaves, and swap only in the page that leaves.
+use mathlib.Core.Path.{_≡_, ap, _∙_}
+use Prim.Native.Nat.{ℕ, _+_, _*_, _<_, _≤_}
+use native.Mathlib.Omega.{arith}
+use native.Mathlib.Decide.{decLt}
+use lib.ListN.{length, getD}
+use Rattle.model.specs.Bytes.{page, withPage}
+use Rattle.model.specs.Pages.{entryAt, swapOf}
+use Rattle.model.specs.Frames.{pageIn}
+use Rattle.model.specs.State.{Memory}
+use Rattle.model.specs.Handler.{out, into, loaded}
+use Rattle.model.specs.declared.Shape.{Shape}
+use Rattle.model.specs.declared.FrameBook.{FrameBook}
+use Rattle.model.specs.declared.VirtualPage.{VirtualPage}
+use Rattle.laws.specs.Good.{Fit, SwapLong, Seated}
+use Rattle.laws.proofs.Bytes.{Off, withPage-other}
+use Rattle.laws.proofs.Table.{byte-other}
+use Rattle.laws.proofs.Moves.{frame-fits, swap-fits, leaving, coming, out-fit, out-whole}
+use Rattle.laws.proofs.Handler.{loaded-free, loaded-full}
+
+-- ---- each move
+module _ (s : Shape) (m : Memory) (h : Fit s (length (m .main))) (w : SwapLong s (length (m .swap))) (f : ℕ) (x : VirtualPage) (hf : f < s .frames)
+    (hx : x .0 < s .ptl) (i : ℕ) where
+  pub out-off : Off (entryAt s x) 4 i → getD (out s m f x .main) i 0 ≡ getD (m .main) i 0
+  unfolding out
+  out-off o = byte-other s (m .main) x _ i o
+
+  pub out-swap-off : Off (4096 * swapOf s x .0) 4096 i → getD (out s m f x .swap) i 0 ≡ getD (m .swap) i 0
+  unfolding out
+  out-swap-off o = withPage-other (m .swap) (s .sbase + x .0) (page (m .main) (s .abase + f)) (swap-fits s m h w x hx) (leaving s m h w f x hf hx) i o
+
+  pub into-off : Off (4096 * s .abase) (4096 * s .frames) i → Off (entryAt s x) 4 i → getD (into s m f x .main) i 0 ≡ getD (m .main) i 0
+  unfolding into
+  into-off o r =
+      byte-other s (withPage (m .main) (s .abase + f) (page (m .swap) (s .sbase + x .0))) x _ i r
+      ∙ withPage-other (m .main) (s .abase + f) (page (m .swap) (s .sbase + x .0)) (frame-fits s m h w f hf) (coming s m h w f x hf hx) i
+      (λ z. omega (arith, z, hf, o (omega (arith, z))))
+
+-- ---- a load
+-- where a frame is free swap stays as it is
+pub load-swap-free : (s : Shape) (b : FrameBook) (m : Memory) (y : VirtualPage) → b .used < s .frames → loaded s b m y .swap ≡ m .swap
+unfolding into
+load-swap-free s b m y q = ap (λ k. k .swap) (loaded-free s b m y q)
+
+module _ (s : Shape) (b : FrameBook) (m : Memory) (h : Fit s (length (m .main))) (w : SwapLong s (length (m .swap))) (g : Seated s b (m .main))
+    (y : VirtualPage) (hy : y .0 < s .ptl) (i : ℕ) where
+  leaves : s .frames ≤ b .used → pageIn b (b .hand) .0 < s .ptl
+  leaves q = g .in-table (b .hand) (omega (arith, q, g .hand-most))
+
+  pub load-off : Off (4096 * s .abase) (4096 * s .frames) i → Off (entryAt s y) 4 i → (s .frames ≤ b .used → Off (entryAt s (pageIn b (b .hand))) 4 i)
+      → getD (loaded s b m y .main) i 0 ≡ getD (m .main) i 0
+  load-off o r v = pick (decLt (b .used) (s .frames))
+    where
+      pick : Dec (b .used < s .frames) → getD (loaded s b m y .main) i 0 ≡ getD (m .main) i 0
+      pick (yes q) = ap (λ k. getD (k .main) i 0) (loaded-free s b m y q) ∙ into-off s m h w (b .used) y q hy i o r
+      pick (no n) =
+          let q : s .frames ≤ b .used = omega (arith, n) in
+          let x : VirtualPage = pageIn b (b .hand) in
+          ap (λ k. getD (k .main) i 0) (loaded-full s b m y q)
+          ∙ into-off s (out s m (b .hand) x) (out-fit s m h w (b .hand) x (g .hand-most) (leaves q)) (out-whole s m h w (b .hand) x (g .hand-most) (leaves q))
+          (b .hand) y (g .hand-most) hy i o r
+          ∙ out-off s m h w (b .hand) x (g .hand-most) (leaves q) i (v q)
+
+  pub load-swap-off : (s .frames ≤ b .used → Off (4096 * swapOf s (pageIn b (b .hand)) .0) 4096 i) → getD (loaded s b m y .swap) i 0 ≡ getD (m .swap) i 0
+  unfolding into
+  load-swap-off v = pick (decLt (b .used) (s .frames))
+    where
+      pick : Dec (b .used < s .frames) → getD (loaded s b m y .swap) i 0 ≡ getD (m .swap) i 0
+      pick (yes q) = ap (λ l. getD l i 0) (load-swap-free s b m y q)
+      pick (no n) =
+          let q : s .frames ≤ b .used = omega (arith, n) in
+          ap (λ k. getD (k .swap) i 0) (loaded-full s b m y q) ∙ out-swap-off s m h w (b .hand) (pageIn b (b .hand)) (g .hand-most) (leaves q) i (v q)

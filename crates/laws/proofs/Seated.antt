@@ -1,0 +1,42 @@
+-- What `Seated` says of a valid entry: it names a frame, and two of them name two.
+use mathlib.Core.Path.{_≡_, sym, ap, _∙_}
+use mathlib.Core.Bool.{true}
+use mathlib.Core.List.{List}
+use Prim.Native.Nat.{ℕ, _+_, _<_, _≤_}
+use native.Mathlib.Omega.{arith}
+use lib.ListN.{length}
+use Rattle.model.specs.Pages.{virtual}
+use Rattle.model.specs.Table.{entry, ppx, valid}
+use Rattle.model.specs.Frames.{pageIn}
+use Rattle.model.specs.State.{State}
+use Rattle.model.specs.declared.Shape.{Shape}
+use Rattle.model.specs.declared.FrameBook.{FrameBook}
+use Rattle.model.specs.declared.VirtualPage.{VirtualPage}
+use Rattle.laws.specs.Good.{Fit, Seated, Good, Safe}
+
+-- two page numbers that are the same number
+pub same-page : {x y : VirtualPage} → x .0 ≡ y .0 → x ≡ y
+same-page e = ap virtual e
+
+module _ (s : Shape) (b : FrameBook) (main : List ℕ) (h : Seated s b main) where
+  framed : (x : VirtualPage) (t : (i : ℕ) × (i < b .used) × (pageIn b i ≡ x)) → ppx (entry s main x) .0 ≡ s .abase + t .0
+  framed x t = ap (λ z. ppx (entry s main z) .0) (sym (t .2)) ∙ h .frame-of (t .0) (t .1)
+
+  pub in-frames : (x : VirtualPage) → x .0 < s .ptl → valid (entry s main x) ≡ true
+      → (s .abase ≤ ppx (entry s main x) .0) × (ppx (entry s main x) .0 < s .abase + s .frames)
+  in-frames x q v =
+      let t : (i : ℕ) × (i < b .used) × (pageIn b i ≡ x) = h .only x q v in
+      let e : ppx (entry s main x) .0 ≡ s .abase + t .0 = framed x t in
+      (omega (arith, e), omega (arith, e, t .1, h .used-most))
+
+  -- two resident pages stand in two frames
+  pub apart : (x y : VirtualPage) → x .0 < s .ptl → y .0 < s .ptl → valid (entry s main x) ≡ true → valid (entry s main y) ≡ true
+      → ppx (entry s main x) .0 ≡ ppx (entry s main y) .0 → x ≡ y
+  apart x y q r v w e =
+      let t : (i : ℕ) × (i < b .used) × (pageIn b i ≡ x) = h .only x q v in
+      let u : (i : ℕ) × (i < b .used) × (pageIn b i ≡ y) = h .only y r w in
+      let a : s .abase + t .0 ≡ s .abase + u .0 = sym (framed x t) ∙ e ∙ framed y u in
+      sym (t .2) ∙ ap (pageIn b) (omega (arith, a)) ∙ u .2
+
+pub safe : (p : State) → Good p → Safe (p .machine .shape) (p .memory .main)
+safe p g = record { fit = g .fit; framed = in-frames (p .machine .shape) (p .machine .book) (p .memory .main) (g .seated) }

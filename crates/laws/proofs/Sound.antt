@@ -1,0 +1,176 @@
+-- The tests `fits` and `sound` pass exactly where a machine is `Good`: what one call accepts is good, and what a call keeps good the
+-- next one does not refuse.
+use mathlib.Core.Path.{_≡_, refl, sym, ap, _∙_}
+use mathlib.Core.Bool.{Bool, true, false, _||_, not, false≢true, true≢false}
+use mathlib.Core.List.{List}
+use Prim.Native.Nat.{ℕ, zero, suc, _<_, _≤_}
+use native.Mathlib.Omega.{arith}
+use native.Mathlib.Nat.{not-suc-le-zero}
+use native.Mathlib.Decide.{decLt, ℕ-discrete}
+use lib.Dec.{eqb, ltb}
+use lib.ListN.{length, getD}
+use borrow.Author.Tests.{leb-true, ltb-true, eqb-true, le-leb, lt-ltb, le-ltb, eq-eqb, ne-eqb}
+use Rattle.model.specs.Choice.{if_then_else_, passes}
+use Rattle.model.specs.Pages.{virtual}
+use Rattle.model.specs.Table.{entry, valid}
+use Rattle.model.specs.Frames.{pageIn, free, among, resident}
+use Rattle.model.specs.Sound.{shapeTests, fits, bookTests, sound}
+use Rattle.model.specs.State.{Memory, State}
+use Rattle.model.specs.declared.Shape.{Shape}
+use Rattle.model.specs.declared.FrameBook.{FrameBook}
+use Rattle.model.specs.declared.VirtualPage.{VirtualPage}
+use Rattle.laws.specs.Good.{Fit, SwapLong, Seated, Good}
+use Rattle.laws.proofs.Choice.{and-left, and-right, and-both, or-left, or-right, or-second, not-true, every-at, every-from, pass, pass-none, pass-more}
+use Rattle.laws.proofs.Seated.{same-page}
+
+-- ---- a page is found among frames exactly where one of them holds it
+pub found : (b : FrameBook) (n : ℕ) (y : VirtualPage) → among b n y ≡ true → (i : ℕ) × (i < n) × (pageIn b i ≡ y)
+unfolding among
+found b zero y e = absurd (false≢true e)
+found b (suc n) y e = pick (eqb (pageIn b n .0) (y .0)) refl e (found b n y)
+  where
+    pick : (c : Bool) → eqb (pageIn b n .0) (y .0) ≡ c → (c || among b n y) ≡ true
+        → (among b n y ≡ true → (i : ℕ) × (i < n) × (pageIn b i ≡ y)) → (i : ℕ) × (i < suc n) × (pageIn b i ≡ y)
+    pick true q r ih = (n, omega arith, same-page (eqb-true _ _ q))
+    pick false q r ih = let t : (i : ℕ) × (i < n) × (pageIn b i ≡ y) = ih r in (t .0, omega (arith, t .1), t .2)
+
+pub found-back : (b : FrameBook) (n : ℕ) (y : VirtualPage) (i : ℕ) → i < n → pageIn b i ≡ y → among b n y ≡ true
+unfolding among
+found-back b zero y i q e = absurd (not-suc-le-zero q)
+found-back b (suc n) y i q e = pick (ℕ-discrete i n) (λ r. found-back b n y i r e)
+  where
+    pick : Dec (i ≡ n) → (i < n → among b n y ≡ true) → (eqb (pageIn b n .0) (y .0) || among b n y) ≡ true
+    pick (yes d) ih = or-left _ _ (eq-eqb _ _ (ap (λ (x : VirtualPage). x .0) (ap (pageIn b) (sym d) ∙ e)))
+    pick (no d) ih = or-right (eqb (pageIn b n .0) (y .0)) _ (ih (omega (arith, d)))
+
+-- ---- the shape
+pub fit-of : (s : Shape) (m : Memory) → fits s m ≡ true → Fit s (length (m .main)) × SwapLong s (length (m .swap))
+unfolding fits
+fit-of s m e = (
+  record {
+    pages-least = leb-true _ _ (t 0);
+    pages-most = leb-true _ _ (t 1);
+    frames-least = leb-true _ _ (t 2);
+    frames-most = leb-true _ _ (t 3);
+    abase-least = leb-true _ _ (t 4);
+    frames-in = leb-true _ _ (t 5);
+    ptl-least = leb-true _ _ (t 6);
+    ptl-most = leb-true _ _ (t 7);
+    pto-aligned = eqb-true _ _ (t 8);
+    table-in = leb-true _ _ (t 9);
+    sbase-most = leb-true _ _ (t 10);
+    main-long = eqb-true _ _ (t 11);
+  },
+  eqb-true _ _ (t 12),
+)
+  where
+    t : (i : ℕ) → getD (shapeTests s m) i true ≡ true
+    t = pass (shapeTests s m) e
+
+pub fits-of : (s : Shape) (m : Memory) → Fit s (length (m .main)) → SwapLong s (length (m .swap)) → fits s m ≡ true
+unfolding fits
+fits-of s m f w =
+    pass-more _ _ (le-leb _ _ (f .pages-least)) (pass-more _ _ (le-leb _ _ (f .pages-most))
+    (pass-more _ _ (le-leb _ _ (f .frames-least)) (pass-more _ _ (le-leb _ _ (f .frames-most))
+    (pass-more _ _ (le-leb _ _ (f .abase-least)) (pass-more _ _ (le-leb _ _ (f .frames-in))
+    (pass-more _ _ (le-leb _ _ (f .ptl-least)) (pass-more _ _ (le-leb _ _ (f .ptl-most))
+    (pass-more _ _ (eq-eqb _ _ (f .pto-aligned)) (pass-more _ _ (le-leb _ _ (f .table-in))
+    (pass-more _ _ (le-leb _ _ (f .sbase-most))
+    (pass-more _ _ (eq-eqb _ _ (f .main-long)) (pass-more _ _ (eq-eqb _ _ w) pass-none))))))))))))
+
+-- ---- the book and the table
+module _ (s : Shape) (b : FrameBook) (main : List ℕ) where
+  pub seated-of : 2 ≤ s .frames → length (b .held) ≡ 32 → passes (bookTests s b main) ≡ true → Seated s b main
+  unfolding resident
+  seated-of two len e = record {
+    array = len;
+    used-most = leb-true _ _ (t 0);
+    in-table = λ i q. ltb-true _ _ (every-at (b .used) _ (t 1) i q);
+    differ = differ;
+    rest = λ i q r. same-page (eqb-true _ _ (or-second _ _ (every-at 32 _ (t 3) i r) (le-ltb _ _ q)));
+    here = λ i q. and-left _ _ (every-at (b .used) _ (t 4) i q);
+    frame-of = λ i q. eqb-true _ _ (and-right (valid (entry s main (pageIn b i))) _ (every-at (b .used) _ (t 4) i q));
+    only = λ x q v. found b (b .used) x (or-second _ _ (every-at (s .ptl) _ (t 5) (x .0) q) (ap not v));
+    hand-still = λ q. eqb-true _ _ (rw (lt-ltb (b .used) (s .frames) q) at (t 6));
+    hand-most = hand (decLt (b .used) (s .frames));
+  }
+    where
+      t : (i : ℕ) → getD (bookTests s b main) i true ≡ true
+      t = pass (bookTests s b main) e
+
+      differs : (i j : ℕ) → i < j → j < b .used → pageIn b i ≡ pageIn b j → ⊥
+      differs i j q r d =
+          true≢false (sym (eq-eqb _ _ (ap (λ (x : VirtualPage). x .0) d)) ∙ not-true _ (every-at j _ (every-at (b .used) _ (t 2) j r) i q))
+
+      differ : (i j : ℕ) → i < b .used → j < b .used → pageIn b i ≡ pageIn b j → i ≡ j
+      differ i j q r d = pick (decLt i j) (decLt j i)
+        where
+          pick : Dec (i < j) → Dec (j < i) → i ≡ j
+          pick (yes a) c = absurd (differs i j a r d)
+          pick (no a) (yes c) = absurd (differs j i c q (sym d))
+          pick (no a) (no c) = omega (arith, a, c)
+
+      hand : Dec (b .used < s .frames) → b .hand < s .frames
+      hand (yes q) = omega (arith, eqb-true (b .hand) 0 (rw (lt-ltb (b .used) (s .frames) q) at (t 6)))
+      hand (no q) = ltb-true _ _ (rw (le-ltb (b .used) (s .frames) (omega (arith, q))) at (t 6))
+
+  module _ (g : Seated s b main) where
+    -- a page is resident exactly where its entry is valid
+    pub resident-valid : (x : VirtualPage) → x .0 < s .ptl → resident b x ≡ valid (entry s main x)
+    unfolding resident
+    resident-valid x q = pick (valid (entry s main x)) refl (among b (b .used) x) refl
+      where
+        pick : (c : Bool) → valid (entry s main x) ≡ c → (d : Bool) → among b (b .used) x ≡ d → among b (b .used) x ≡ valid (entry s main x)
+        pick true v d r = let t : (i : ℕ) × (i < b .used) × (pageIn b i ≡ x) = g .only x q v in found-back b (b .used) x (t .0) (t .1) (t .2) ∙ sym v
+        pick false v true r =
+            let t : (i : ℕ) × (i < b .used) × (pageIn b i ≡ x) = found b (b .used) x r in
+            r ∙ sym (g .here (t .0) (t .1)) ∙ ap (λ z. valid (entry s main z)) (t .2)
+        pick false v false r = r ∙ sym v
+
+    pub tests-of : passes (bookTests s b main) ≡ true
+    tests-of =
+        pass-more _ _ (le-leb _ _ (g .used-most))
+        (pass-more _ _ (every-from (b .used) _ (λ i q. lt-ltb _ _ (g .in-table i q)))
+        (pass-more _ _ (every-from (b .used) _ (λ j r. every-from j _ (λ i q. ap not (ne-eqb _ _ (λ d. differs i j q r (same-page d))))))
+        (pass-more _ _ (every-from 32 _ (λ i q. rest i q (decLt i (b .used))))
+        (pass-more _ _ (every-from (b .used) _ (λ i q. and-both _ _ (g .here i q) (eq-eqb _ _ (g .frame-of i q))))
+        (pass-more _ _ (every-from (s .ptl) _ (λ x q. only x q (valid (entry s main (virtual x))) refl))
+        (pass-more _ _ (hand (decLt (b .used) (s .frames))) pass-none))))))
+      where
+        differs : (i j : ℕ) → i < j → j < b .used → pageIn b i ≡ pageIn b j → ⊥
+        differs i j q r d = omega (arith, g .differ i j (omega arith) r d)
+
+        rest : (i : ℕ) → i < 32 → Dec (i < b .used) → (ltb i (b .used) || eqb (pageIn b i .0) 0) ≡ true
+        rest i q (yes d) = or-left _ _ (lt-ltb _ _ d)
+        rest i q (no d) = or-right (ltb i (b .used)) _ (eq-eqb _ _ (ap (λ (x : VirtualPage). x .0) (g .rest i (omega (arith, d)) q)))
+
+        only : (x : ℕ) → x < s .ptl → (c : Bool) → valid (entry s main (virtual x)) ≡ c
+            → (not (valid (entry s main (virtual x))) || resident b (virtual x)) ≡ true
+        only x q true v = or-right (not (valid (entry s main (virtual x)))) _ (resident-valid (virtual x) q ∙ v)
+        only x q false v = or-left _ _ (ap not v)
+
+        hand : Dec (b .used < s .frames) → (if free (s .frames) b then eqb (b .hand) 0 else ltb (b .hand) (s .frames)) ≡ true
+        hand (yes q) = rw (lt-ltb (b .used) (s .frames) q) (eq-eqb _ _ (g .hand-still q))
+        hand (no q) = rw (le-ltb (b .used) (s .frames) (omega (arith, q))) (lt-ltb _ _ (g .hand-most))
+
+-- ---- the whole machine
+pub good-of : (p : State) → length (p .machine .book .held) ≡ 32 → fits (p .machine .shape) (p .memory) ≡ true
+    → sound (p .machine) (p .memory .main) ≡ true → Good p
+unfolding sound passes
+good-of p len f e =
+    let shaped : Fit (p .machine .shape) (length (p .memory .main)) × SwapLong (p .machine .shape) (length (p .memory .swap))
+    = fit-of (p .machine .shape) (p .memory) f in
+    record {
+      fit = shaped .0;
+      whole = shaped .1;
+      seated = seated-of (p .machine .shape) (p .machine .book) (p .memory .main) (shaped .0 .frames-least) len
+          (and-right (eqb (getD (p .machine .gpr) 0 0) 0) _ e);
+      zero = eqb-true _ _ (and-left _ _ e);
+    }
+
+pub sound-of : (p : State) → Good p → (fits (p .machine .shape) (p .memory) ≡ true) × (sound (p .machine) (p .memory .main) ≡ true)
+unfolding sound
+sound-of p g = (
+  fits-of (p .machine .shape) (p .memory) (g .fit) (g .whole),
+  pass-more _ _ (eq-eqb _ _ (g .zero)) (tests-of (p .machine .shape) (p .machine .book) (p .memory .main) (g .seated)),
+)

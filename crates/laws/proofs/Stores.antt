@@ -1,0 +1,101 @@
+-- A store by an access of the paged machine is that store in the flat memory. The rights stay, and so does main memory outside the
+-- frames.
+use mathlib.Core.Path.{_≡_, refl, sym, ap, ap₂, subst, _∙_}
+use mathlib.Core.Bool.{true}
+use Prim.Native.Nat.{ℕ, _+_, _-_, _*_, _<_, _≤_}
+use native.Mathlib.Omega.{arith}
+use native.Mathlib.Decide.{decLt, ℕ-discrete}
+use lib.ListN.{length, getD}
+use lib.Seq.{ext-getD}
+use Rattle.model.specs.Words.{aligned}
+use Rattle.model.specs.Bytes.{store}
+use Rattle.model.specs.Pages.{virtual, pageOf, offset, entryAt, mainAt}
+use Rattle.model.specs.Table.{entry, ppx, valid}
+use Rattle.model.specs.State.{Memory}
+use Rattle.model.specs.Translate.{translate, flatByte}
+use Rattle.model.specs.Attempt.{Width, size}
+use Rattle.model.specs.Flat.{rightsByte, flatBytes, flatRights}
+use Rattle.model.specs.declared.Shape.{Shape}
+use Rattle.model.specs.declared.FrameBook.{FrameBook}
+use Rattle.model.specs.declared.VirtualPage.{VirtualPage}
+use Rattle.model.specs.declared.Access.the-variants.{At}
+use Rattle.laws.specs.Good.{Fit, Seated}
+use Rattle.laws.proofs.Choice.{length-below, below-same}
+use Rattle.laws.proofs.Bytes.{Off, number-same, store-other, store-same, length-store}
+use Rattle.laws.proofs.Seated.{same-page, in-frames, apart}
+use Rattle.laws.proofs.Table.{flat-here, flat-same}
+use Rattle.laws.proofs.Access.{Through, through, ends, within, bytes-at}
+
+abbrev stored : Memory → Width → ℕ → ℕ → Memory
+stored m width i v = record { main = store (size width) (m .main) i v; swap = m .swap }
+
+module _ (s : Shape) (b : FrameBook) (m : Memory) (fit : Fit s (length (m .main))) (g : Seated s b (m .main))
+    (width : Width) (va i v : ℕ) (a : aligned (size width) va ≡ true) (q : translate s (m .main) true va ≡ At i) where
+  t : Through s (m .main) true va i
+  t = through s (m .main) true va i q
+
+  -- the store stays in its frame
+  framed : (4096 * s .abase ≤ i) × (i + size width ≤ 4096 * (s .abase + s .frames))
+  framed =
+      let f : (s .abase ≤ ppx (entry s (m .main) (pageOf va)) .0) × (ppx (entry s (m .main) (pageOf va)) .0 < s .abase + s .frames)
+      = in-frames s b (m .main) g (pageOf va) (t .inside) (t .here) in
+      (omega (arith, t .at), omega (arith, t .at, ends width va a))
+
+  pub store-off : (j : ℕ) → Off (4096 * s .abase) (4096 * s .frames) j → getD (store (size width) (m .main) i v) j 0 ≡ getD (m .main) j 0
+  store-off j o = store-other (size width) (m .main) i v j 0 (λ h. omega (arith, framed, o (omega (arith, framed))))
+
+  pub entry-kept : (x : VirtualPage) → x .0 < s .ptl → entry s (store (size width) (m .main) i v) x ≡ entry s (m .main) x
+  unfolding entry
+  entry-kept x h =
+      number-same 4 (store (size width) (m .main) i v) (m .main) (entryAt s x) (entryAt s x)
+      (λ k r. store-off (entryAt s x + k) (λ z. absurd (omega (arith, z, fit .table-in))))
+
+  pub rights-kept : flatRights s (store (size width) (m .main) i v) ≡ flatRights s (m .main)
+  rights-kept = below-same (s .ptl) _ _ (λ x h. ap rightsByte (entry-kept (virtual x) h))
+
+  -- a byte of main memory that another address names
+  untouched : (j : ℕ) → pageOf j .0 < s .ptl → valid (entry s (m .main) (pageOf j)) ≡ true → Off va (size width) j
+      → getD (store (size width) (m .main) i v) (mainAt (ppx (entry s (m .main) (pageOf j))) (offset j)) 0
+      ≡ getD (m .main) (mainAt (ppx (entry s (m .main) (pageOf j))) (offset j)) 0
+  untouched j h here far = store-other (size width) (m .main) i v _ 0 (pick (ℕ-discrete (pageOf j .0) (pageOf va .0)))
+    where
+      pick : Dec (pageOf j .0 ≡ pageOf va .0) → Off i (size width) (mainAt (ppx (entry s (m .main) (pageOf j))) (offset j))
+      pick (yes e) r =
+          let c : ppx (entry s (m .main) (pageOf j)) .0 ≡ ppx (entry s (m .main) (pageOf va)) .0 = ap (λ x. ppx (entry s (m .main) x) .0) (same-page e) in
+          omega (arith, t .at, far (omega (arith, t .at)))
+      pick (no n) r =
+          let c : ppx (entry s (m .main) (pageOf j)) .0 ≡ ppx (entry s (m .main) (pageOf va)) .0 → ⊥
+          = λ d. n (ap (λ (x : VirtualPage). x .0) (apart s b (m .main) g (pageOf j) (pageOf va) h (t .inside) here (t .here) d)) in
+          omega (arith, c, t .at, ends width va a)
+
+  -- a byte that is not stored, and one that is
+  elsewhere : (j : ℕ) → j < 4096 * s .ptl → Off va (size width) j → flatByte s (stored m width i v) j ≡ getD (store (size width) (flatBytes s m) va v) j 0
+  elsewhere j h far =
+      flat-same s m (stored m width i v) j (entry-kept (pageOf j) (omega arith)) (λ here. untouched j (omega arith) here far) (λ away. refl)
+      ∙ sym (store-other (size width) (flatBytes s m) va v j 0 far ∙ bytes-at s m j h)
+
+  there : (k : ℕ) → k < size width → flatByte s (stored m width i v) (va + k) ≡ getD (store (size width) (flatBytes s m) va v) (va + k) 0
+  there k h =
+      let w : (pageOf (va + k) ≡ pageOf va) × (offset (va + k) ≡ offset va + k) = within s m width va k a h in
+      let c : entry s (stored m width i v .main) (pageOf (va + k)) ≡ entry s (m .main) (pageOf va)
+      = ap (entry s (stored m width i v .main)) (w .0) ∙ entry-kept (pageOf va) (t .inside) in
+      flat-here s (stored m width i v) (va + k) (ap valid c ∙ t .here)
+      ∙ ap₂ (λ (x y : ℕ). getD (store (size width) (m .main) i v) (mainAt (ppx x) y) 0) c (w .1)
+      ∙ ap (λ (x : ℕ). getD (store (size width) (m .main) i v) x 0) (omega (arith, t .at))
+      ∙ store-same (size width) (m .main) (flatBytes s m) i va v k 0 h
+      (omega (arith, framed, fit .frames-in, fit .main-long))
+      (omega (arith, ends width va a, t .inside, length-below (4096 * s .ptl) (λ z. flatByte s m z)))
+
+  pub bytes-kept : flatBytes s (record { main = store (size width) (m .main) i v; swap = m .swap }) ≡ store (size width) (flatBytes s m) va v
+  bytes-kept =
+      ext-getD 0 (flatBytes s (stored m width i v)) (store (size width) (flatBytes s m) va v)
+      (simp (length-store, length-below))
+      (λ j h. let l : j < 4096 * s .ptl = simp length-below at h in
+      bytes-at s (stored m width i v) j l ∙ pick j l (decLt j va) (decLt j (va + size width)))
+    where
+      pick : (j : ℕ) → j < 4096 * s .ptl → Dec (j < va) → Dec (j < va + size width)
+          → flatByte s (stored m width i v) j ≡ getD (store (size width) (flatBytes s m) va v) j 0
+      pick j l (no n) (yes r) =
+          subst (λ (z : ℕ). flatByte s (stored m width i v) z ≡ getD (store (size width) (flatBytes s m) va v) z 0) (omega (arith, n)) (there (j - va) (omega (arith, n)))
+      pick j l (yes r) d = elsewhere j l (λ z. omega (arith, z))
+      pick j l (no n) (no r) = elsewhere j l (λ z. omega (arith, r))

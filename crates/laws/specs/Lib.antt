@@ -1,0 +1,4 @@
+pub mod Good
+pub mod Mapped
+pub mod Demand2
+pub mod Named

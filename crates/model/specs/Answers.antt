@@ -1,0 +1,68 @@
+-- Section "Calls and their refusals": this paper's numbers and values for each case of an answer.
+use Prim.Native.Nat.{ℕ}
+use Rattle.model.specs.declared.Stop.{Stop}
+use Rattle.model.specs.declared.Stop.the-variants.{Limit, Trap, Memory, Misaligned, Instruction}
+use Rattle.model.specs.declared.Refusal.{Refusal}
+use Rattle.model.specs.declared.Refusal.the-variants.{Bound, Unsound, Rights, TooMuch, Edition, Format, Room}
+use Rattle.model.specs.declared.Verdict.{Verdict}
+use Rattle.model.specs.declared.Verdict.the-variants.{Granted, Refused}
+use Rattle.model.specs.declared.RunAnswer.{RunAnswer}
+use Rattle.model.specs.declared.RunAnswer.the-variants.{Ran, NotRun}
+use Rattle.model.specs.declared.ImageAnswer.{ImageAnswer}
+use Rattle.model.specs.declared.ImageAnswer.the-variants.{Image, NotImage}
+
+-- "Stops: 0 limit used up, 1 trap, 2 illegal memory and 3 misaligned, 4 illegal instruction"
+abbrev pub stopNumber : Stop → ℕ
+stopNumber Limit = 0
+stopNumber (Trap n) = 1
+stopNumber (Memory va) = 2
+stopNumber (Misaligned va) = 3
+stopNumber (Instruction w) = 4
+
+-- "detail 0", "its number", "the virtual address", "the word"
+abbrev pub stopDetail : Stop → ℕ
+stopDetail Limit = 0
+stopDetail (Trap n) = n
+stopDetail (Memory va) = va
+stopDetail (Misaligned va) = va
+stopDetail (Instruction w) = w
+
+-- the table of refusals, row by row
+abbrev pub refusalNumber : Refusal → ℕ
+refusalNumber Bound = 1
+refusalNumber Unsound = 2
+refusalNumber Rights = 3
+refusalNumber TooMuch = 4
+refusalNumber Edition = 5
+refusalNumber Format = 6
+refusalNumber Room = 7
+
+-- 0 where nothing is refused
+abbrev pub verdictNumber : Verdict → ℕ
+verdictNumber Granted = 0
+verdictNumber (Refused r) = refusalNumber r
+
+-- "Run returns the stop, a detail, instructions finished, pages loaded."
+pub record RunNumbers : Type 0 where
+  pub refused : ℕ
+  pub stop : ℕ
+  pub detail : ℕ
+  pub finished : ℕ
+  pub loads : ℕ
+
+-- "A refusal returns its number, zero for every other number"
+abbrev pub runNumbers : RunAnswer → RunNumbers
+runNumbers (Ran s finished loads) =
+    record { refused = 0; stop = stopNumber s; detail = stopDetail s; finished = finished; loads = loads }
+runNumbers (NotRun r) = record { refused = refusalNumber r; stop = 0; detail = 0; finished = 0; loads = 0 }
+
+-- "with them come ptl, start and frames as written"
+pub record ImageNumbers : Type 0 where
+  pub refused : ℕ
+  pub ptl : ℕ
+  pub start : ℕ
+  pub frames : ℕ
+
+abbrev pub imageNumbers : ImageAnswer → ImageNumbers
+imageNumbers (Image ptl start frames) = record { refused = 0; ptl = ptl; start = start; frames = frames }
+imageNumbers (NotImage r) = record { refused = refusalNumber r; ptl = 0; start = 0; frames = 0 }

@@ -1,0 +1,73 @@
+-- Section "Console images", its end: what the program writes, byte by byte, for what it reads.
+use mathlib.Core.Bool.{Bool, true, false}
+use mathlib.Core.List.{List, [], _∷_, _++_}
+use Prim.Native.Nat.{ℕ, zero, suc, _+_, _*_, _/_, _%_}
+use lib.Dec.{eqb, leb, ltb}
+use lib.ListN.{length, replicate}
+use Rattle.model.specs.Choice.{if_then_else_}
+use Rattle.model.specs.State.{State}
+use Rattle.model.specs.Answers.{verdictNumber, RunNumbers}
+use Rattle.model.specs.Calls.{unless, RunOutcome, runCall, StateOutcome}
+use Rattle.model.specs.Image.{ptlOf, imageVerdict, loadCall}
+use Rattle.model.specs.declared.Refusal.the-variants.{Room}
+use Rattle.model.specs.declared.Verdict.{Verdict}
+use Rattle.model.specs.declared.Verdict.the-variants.{Granted, Refused}
+
+-- the decimal digits of x, of which there are at most n + 1
+unfoldable pub digits : ℕ → ℕ → List ℕ
+digits zero x = (48 + x) ∷ []
+digits (suc n) x = if ltb x 10 then (48 + x) ∷ [] else digits n (x / 10) ++ ((48 + x % 10) ∷ [])
+
+-- a space and a number below 2^32, which has at most ten digits; the end of a line
+abbrev pub spaced : ℕ → List ℕ
+spaced x = 32 ∷ digits 9 x
+
+abbrev pub newline : List ℕ
+newline = 10 ∷ []
+
+-- ---- the words of the lines
+abbrev pub stopWord : List ℕ
+stopWord = 115 ∷ 116 ∷ 111 ∷ 112 ∷ []
+
+abbrev pub finishedWord : List ℕ
+finishedWord = 102 ∷ 105 ∷ 110 ∷ 105 ∷ 115 ∷ 104 ∷ 101 ∷ 100 ∷ []
+
+abbrev pub loadsWord : List ℕ
+loadsWord = 108 ∷ 111 ∷ 97 ∷ 100 ∷ 115 ∷ []
+
+abbrev pub dpcWord : List ℕ
+dpcWord = 100 ∷ 112 ∷ 99 ∷ []
+
+abbrev pub refusedWord : List ℕ
+refusedWord = 114 ∷ 101 ∷ 102 ∷ 117 ∷ 115 ∷ 101 ∷ 100 ∷ []
+
+-- "the one line `refused` with the number"
+abbrev pub refusedLine : ℕ → List ℕ
+refusedLine n = refusedWord ++ (spaced n ++ newline)
+
+-- "four lines, in decimal: `stop` with number and detail, `finished`, `loads`, `dpc`"
+abbrev pub fourLines : RunNumbers → ℕ → List ℕ
+fourLines r dpc =
+    stopWord ++ (spaced (r .stop) ++ (spaced (r .detail) ++ (newline
+    ++ (finishedWord ++ (spaced (r .finished) ++ (newline
+    ++ (loadsWord ++ (spaced (r .loads) ++ (newline
+    ++ (dpcWord ++ (spaced dpc ++ newline)))))))))))
+
+abbrev pub runLines : RunOutcome → List ℕ
+runLines r =
+    if eqb (r .numbers .refused) 0 then fourLines (r .numbers) (r .state .machine .pcs .dpc) else refusedLine (r .numbers .refused)
+
+-- "runs at most 1000 instructions"
+abbrev pub loadedLines : StateOutcome → List ℕ
+loadedLines l = if eqb (l .refused) 0 then runLines (runCall (l .state) 1000) else refusedLine (l .refused)
+
+-- "uses five main pages": what stood in the lent bytes before does not matter, loading writes them all
+abbrev pub imageLines : Verdict → List ℕ → List ℕ
+imageLines Granted l = loadedLines (loadCall l (record { main = replicate 20480 0; swap = replicate (4096 * ptlOf l) 0 }))
+imageLines (Refused r) l = refusedLine (verdictNumber (Refused r))
+
+-- "A longer input prints `refused 7` by its length alone. Otherwise a ptl above 4 prints `refused 7`, unless 5 or 6 applies."
+unfoldable pub consoleText : List ℕ → List ℕ
+consoleText input =
+    if leb (length input) 17436 then imageLines (imageVerdict input (unless (leb (ptlOf input) 4) Room Granted)) input
+    else refusedLine 7

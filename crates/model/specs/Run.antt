@@ -1,0 +1,89 @@
+-- Sections "One attempt" and "Calls and their refusals": an instruction, and a run of at most n of them. `run` serves every machine
+-- that has an instruction: the paged one here, the flat one in Flat.
+use mathlib.Core.List.{List}
+use Prim.Native.Nat.{ℕ, zero, suc, _+_}
+use Rattle.model.specs.Pages.{pageOf}
+use Rattle.model.specs.Translate.{translate}
+use Rattle.model.specs.Attempt.{Tried, attempt}
+use Rattle.model.specs.State.{Memory, State}
+use Rattle.model.specs.Handler.{load}
+use Rattle.model.specs.declared.Pcs.{Pcs}
+use Rattle.model.specs.declared.VirtualPage.{VirtualPage}
+use Rattle.model.specs.declared.Stop.{Stop}
+use Rattle.model.specs.declared.Stop.the-variants as stop
+use Rattle.model.specs.declared.Outcome.{Outcome}
+use Rattle.model.specs.declared.Outcome.the-variants.{Done, Trapped, Missing, Stopped}
+
+-- ---- any machine M
+-- What an instruction comes to: the machine goes on, or it stops, with 1 finished (a trap) or 0.
+pub data Step (M : Type 0) : Type 0 where
+  goes : M → Step M
+  stops : Stop → (finished : ℕ) → M → Step M
+
+-- What a run comes to: why it stopped, the instructions finished, and the machine that it leaves.
+pub record Course (M : Type 0) : Type 0 where
+  pub stop : Stop
+  pub finished : ℕ
+  pub left : M
+
+module _ {M : Type 0} where
+  -- What an attempt of machine m comes to: `put` is the machine with other registers and bytes, `again` what follows a fault.
+  abbrev pub answered : M → (Pcs → List ℕ → List ℕ → M) → (ℕ → Step M) → List ℕ → List ℕ → Outcome → Step M
+  answered m put again gpr bytes (Done pcs) = goes (put pcs gpr bytes)
+  answered m put again gpr bytes (Trapped pcs n) = stops (stop.Trap n) 1 (put pcs gpr bytes)
+  answered m put again gpr bytes (Missing va) = again va
+  answered m put again gpr bytes (Stopped s) = stops s 0 m
+
+  abbrev pub answer : M → (Pcs → List ℕ → List ℕ → M) → (ℕ → Step M) → Tried → Step M
+  answer m put again t = answered m put again (t .gpr) (t .bytes) (t .outcome)
+
+  abbrev pub ended : Stop → ℕ → M → Course M
+  ended s n m = record { stop = s; finished = n; left = m }
+
+  -- the same with n more instructions finished before
+  abbrev pub more : ℕ → Course M → Course M
+  more n c = record { stop = c .stop; finished = n + c .finished; left = c .left }
+
+  unfoldable pub follow : Step M → (M → Course M) → Course M
+  follow (goes m) rest = more 1 (rest m)
+  follow (stops s n m) rest = ended s n m
+
+module _ {M : Type 0} (instruction : M → Step M) where
+  -- "0 limit used up (tested first, before each instruction)"
+  unfoldable pub run : ℕ → M → Course M
+  run zero m = ended stop.Limit 0 m
+  run (suc n) m = follow (instruction m) (λ next. run n next)
+
+-- ---- the paged machine, with the pages loaded so far
+pub record Counted : Type 0 where
+  pub state : State
+  pub loads : ℕ
+
+abbrev pub uncounted : State → Counted
+uncounted p = record { state = p; loads = 0 }
+
+-- one attempt
+abbrev pub try : State → Tried
+try p = attempt (translate (p .machine .shape) (p .memory .main)) (p .machine .gpr) (p .memory .main) (p .machine .pcs)
+
+abbrev pub carried : State → Pcs → List ℕ → List ℕ → State
+carried p pcs gpr main = record {
+  machine = record { shape = p .machine .shape; book = p .machine .book; gpr = gpr; pcs = pcs };
+  memory = record { main = main; swap = p .memory .swap };
+}
+
+abbrev pub put : Counted → Pcs → List ℕ → List ℕ → Counted
+put c pcs gpr main = record { state = carried (c .state) pcs gpr main; loads = c .loads }
+
+-- one step of the handler is one page loaded
+abbrev pub served : Counted → VirtualPage → Counted
+served c y = record { state = load (c .state) y; loads = suc (c .loads) }
+
+-- An instruction with at most k page loads: "load the page, begin the attempt anew". In a sound machine two are enough, by the law
+-- `third`; where a third were needed the definition gives stop 2.
+unfoldable pub attempts : ℕ → Counted → Step Counted
+attempts zero c = answer c (put c) (λ va. stops (stop.Memory va) 0 c) (try (c .state))
+attempts (suc k) c = answer c (put c) (λ va. attempts k (served c (pageOf va))) (try (c .state))
+
+unfoldable pub instruction : Counted → Step Counted
+instruction c = attempts 2 c

@@ -1,0 +1,154 @@
+-- The worked values that document 01 marks with *, as one table and one statement about the definitions, with pages of 4096 bytes
+-- and the real run. The checker computes it.
+use mathlib.Core.Bool.{Bool, true, false, _&&_}
+use mathlib.Core.List.{List, [], _∷_, _++_}
+use Prim.Native.Nat.{ℕ, zero, suc, _+_, _-_, _*_, _/_, _%_, _^_}
+use lib.Dec.{T, eqb}
+use lib.ListN.{replicate}
+use Rattle.model.specs.Choice.{passes, everyBelow, listBelow}
+use Rattle.model.specs.Words.{minus}
+use Rattle.model.specs.Bytes.{number, store, page, withPage}
+use Rattle.model.specs.Table.{entry, withEntry}
+use Rattle.model.specs.Frames.{advanced, among, resident, emptyBook, pageIn}
+use Rattle.model.specs.State.{Memory, State}
+use Rattle.model.specs.Sound.{fits, sound}
+use Rattle.model.specs.Translate.{translate}
+use Rattle.model.specs.Instruction.{plan, register, immediate}
+use Rattle.model.specs.Attempt.{transfer, loading, storing, obey, attempt}
+use Rattle.model.specs.Handler.{out, into, loaded, load}
+use Rattle.model.specs.Run.{follow, run, attempts, instruction}
+use Rattle.model.specs.Answers.{RunNumbers}
+use Rattle.model.specs.Calls.{machineVerdict, runVerdict, RunOutcome, runCall}
+use Rattle.model.specs.declared.Shape.{Shape}
+use Rattle.model.specs.declared.Pcs.{Pcs}
+use Rattle.model.specs.declared.Access.{Access}
+use Rattle.model.specs.declared.Access.the-variants.{Illegal, Fault, At}
+use Rattle.model.specs.declared.Plan.{Plan}
+use Rattle.model.specs.declared.Plan.the-variants.{Unknown, Set, LoadByte, LoadHalf, LoadWord, StoreByte, StoreHalf, StoreWord, Trapping}
+
+-- ---- machines to try
+abbrev zeros : ℕ → List ℕ
+zeros n = replicate n 0
+
+-- entries with these low bytes, and then the rest of main memory
+abbrev table : List ℕ → List ℕ → List ℕ
+table [] after = after
+table (e ∷ es) after = e ∷ 0 ∷ 0 ∷ 0 ∷ table es after
+
+-- words stored from an address on
+abbrev words : List ℕ → ℕ → List ℕ → List ℕ
+words l i [] = l
+words l i (w ∷ ws) = words (store 4 l i w) (i + 4) ws
+
+-- GPR 1 and 2, and the others 0
+abbrev registers : ℕ → ℕ → List ℕ
+registers x y = 0 ∷ x ∷ y ∷ zeros 29
+
+abbrev shapeOf : ℕ → ℕ → Shape
+shapeOf a n = record { pages = 1 + a; frames = a; abase = 1; ptl = n; pto = 0; sbase = 0 }
+
+-- a fresh machine of a frames with n readable pages in swap
+abbrev machine : ℕ → ℕ → List ℕ → ℕ → ℕ → List ℕ → State
+machine a n gpr dpc next swap = record {
+  machine = record { shape = shapeOf a n; book = emptyBook; gpr = gpr; pcs = record { dpc = dpc; next = next } };
+  memory = record { main = table (replicate n 4) (zeros (4096 * (1 + a) - 4 * n)); swap = swap };
+}
+
+-- ---- answers as lists of numbers
+abbrev planned : Plan → List ℕ
+planned Unknown = 0 ∷ []
+planned (Set rd v target) = 1 ∷ rd ∷ v ∷ target ∷ []
+planned (LoadByte signed rd va) = 2 ∷ 1 ∷ rd ∷ va ∷ []
+planned (LoadHalf signed rd va) = 2 ∷ 2 ∷ rd ∷ va ∷ []
+planned (LoadWord rd va) = 2 ∷ 4 ∷ rd ∷ va ∷ []
+planned (StoreByte va v) = 3 ∷ 1 ∷ va ∷ v ∷ []
+planned (StoreHalf va v) = 3 ∷ 2 ∷ va ∷ v ∷ []
+planned (StoreWord va v) = 3 ∷ 4 ∷ va ∷ v ∷ []
+planned (Trapping n) = 4 ∷ n ∷ []
+
+abbrev accessed : Access → List ℕ
+accessed Illegal = 0 ∷ []
+accessed Fault = 1 ∷ []
+accessed (At i) = 2 ∷ i ∷ []
+
+-- refusal, stop, detail, finished, loads
+abbrev counted : RunOutcome → List ℕ
+counted r = r .numbers .refused ∷ r .numbers .stop ∷ r .numbers .detail ∷ r .numbers .finished ∷ r .numbers .loads ∷ []
+
+-- B[0], B[1], hand
+abbrev booked : RunOutcome → List ℕ
+booked r = pageIn (r .state .machine .book) 0 .0 ∷ pageIn (r .state .machine .book) 1 .0 ∷ r .state .machine .book .hand ∷ []
+
+-- DPC, PC' and the registers
+abbrev registered : RunOutcome → List ℕ
+registered r = r .state .machine .pcs .dpc ∷ r .state .machine .pcs .next ∷ r .state .machine .gpr
+
+-- ---- the two programs
+-- lw 1,4096(0) and lw 1,8192(0)
+abbrev two-loads : State
+two-loads = machine 2 3 (registers 0 0) 0 4 (words (zeros 12288) 0 (0x8C011000 ∷ 0x8C012000 ∷ []))
+
+-- pages that begin with these words, one after another
+abbrev pages : List (List ℕ) → List ℕ
+pages [] = []
+pages (ws ∷ more) = words (zeros 4096) 0 ws ++ pages more
+
+-- j to k, where PC' is i
+abbrev hop : ℕ → ℕ → ℕ
+hop i k = 2 * 2 ^ 26 + minus k i % 2 ^ 26
+
+-- A jump in each word: fetched are, one after another, the words at 4096, 8192, 12288, 16384, 4100, 8196, 20480, 4104, 8200,
+-- 12292, 16388, 20484, in the pages 1,2,3,4,1,2,5,1,2,3,4,5.
+abbrev fetches : ℕ → State
+fetches a = machine a 6 (registers 0 0) 4096 8192 (pages (
+    []
+    ∷ (hop 8192 12288 ∷ hop 8196 20480 ∷ hop 8200 12292 ∷ [])
+    ∷ (hop 12288 16384 ∷ hop 20480 4104 ∷ hop 12292 16388 ∷ [])
+    ∷ (hop 16384 4100 ∷ hop 16388 20484 ∷ [])
+    ∷ (hop 4100 8196 ∷ 0 ∷ [])
+    ∷ (hop 4104 8200 ∷ 0 ∷ [])
+    ∷ []))
+
+-- ---- the table
+infix 5 _is_
+-- the two lists are the same
+abbrev pub _is_ : List ℕ → List ℕ → Bool
+_is_ [] [] = true
+_is_ [] (y ∷ ys) = false
+_is_ (x ∷ xs) [] = false
+_is_ (x ∷ xs) (y ∷ ys) = eqb x y && (xs is ys)
+
+abbrev pub every : List Bool → Bool
+every [] = true
+every (b ∷ bs) = b && every bs
+
+-- The table stands in the statement itself: as a definition of its own it would be computed more than once.
+pub worked : T (every (
+    -- 0x24010007 is addi 1,0,7; 0xAC010040 is sw 1,64(0), with 9 in GPR 1; 0xF8000005 is trap 5
+    (planned (plan (registers 0 0) 4 0x24010007) is 1 ∷ 1 ∷ 7 ∷ 8 ∷ [])
+    ∷ (planned (plan (registers 9 0) 4 0xAC010040) is 3 ∷ 4 ∷ 64 ∷ 9 ∷ [])
+    ∷ (planned (plan (registers 0 0) 4 0xF8000005) is 4 ∷ 5 ∷ [])
+    -- 0 changes only DPC and PC'
+    ∷ (registered (runCall (machine 2 1 (registers 7 8) 0 4 (zeros 4096)) 1) is 4 ∷ 8 ∷ 0 ∷ 7 ∷ 8 ∷ zeros 29)
+    -- ptl 2: va 8191 is in the table (and faults), 8192 is illegal, whatever stands behind the table
+    ∷ (accessed (translate (shapeOf 2 2) (table (4 ∷ 4 ∷ 4 ∷ []) (zeros 12276)) false 8191) is 1 ∷ [])
+    ∷ (accessed (translate (shapeOf 2 2) (table (4 ∷ 4 ∷ 4 ∷ []) (zeros 12276)) false 8192) is 0 ∷ [])
+    -- v 0 and r 0, read: illegal, not a fault
+    ∷ (accessed (translate (shapeOf 2 2) (table (0 ∷ 4 ∷ []) (zeros 12280)) false 0) is 0 ∷ [])
+    -- 2^31−1 plus 1 by add gives 2^31; sgr of that against 0 gives 0; srai of 0x80000000 by 31; lw at 0xFFFFFFFC+8
+    ∷ (planned (plan (registers (2 ^ 31 - 1) 1) 4 0x00221821) is 1 ∷ 3 ∷ 2 ^ 31 ∷ 8 ∷ [])
+    ∷ (planned (plan (registers (2 ^ 31) 1) 4 0x00201829) is 1 ∷ 3 ∷ 0 ∷ 8 ∷ [])
+    ∷ (planned (plan (registers 0x80000000 1) 4 0x00201FC3) is 1 ∷ 3 ∷ 0xFFFFFFFF ∷ 8 ∷ [])
+    ∷ (planned (plan (registers 0xFFFFFFFC 1) 4 0x8C220008) is 2 ∷ 4 ∷ 2 ∷ 4 ∷ [])
+    -- a = 2, limit 2: finished 2, loads 4, B = 2, 0, hand 0
+    ∷ (counted (runCall two-loads 2) is 0 ∷ 0 ∷ 0 ∷ 2 ∷ 4 ∷ [])
+    ∷ (booked (runCall two-loads 2) is 2 ∷ 0 ∷ 0 ∷ [])
+    -- fetches alone: 9 loads with 3 frames, 10 with 4
+    ∷ (counted (runCall (fetches 3) 12) is 0 ∷ 0 ∷ 0 ∷ 12 ∷ 9 ∷ [])
+    ∷ (counted (runCall (fetches 4) 12) is 0 ∷ 0 ∷ 0 ∷ 12 ∷ 10 ∷ [])
+    ∷ []
+    ))
+unfolding
+    passes everyBelow listBelow number store page withPage entry withEntry advanced among resident fits sound translate plan register immediate
+    transfer loading storing obey attempt out into loaded load follow run attempts instruction machineVerdict runVerdict runCall
+worked = tt

@@ -21,3 +21,5 @@ pub mod Loads
 pub mod Outside
 pub mod Frame
 pub mod Sentences
+pub mod Formed
+pub mod Fresh

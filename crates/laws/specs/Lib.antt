@@ -2,3 +2,4 @@ pub mod Good
 pub mod Mapped
 pub mod Demand2
 pub mod Named
+pub mod Formed

@@ -1,0 +1,20 @@
+use Rattle.model.specs.Sound.{shapeTests, fits}
+use Rattle.paging.specs.Ready.{memory}
+use Rattle.paging.proofs.Rows.{joined, chained, chained-passes}
+-- `check::fits`: the row of tests.
+use borrow.Author.Needs.{needs}
+use Rattle.paging.proofs.check.fits.Statement.{statement}
+use Rattle.paging.proofs.check.fits.Tie as tie
+
+returns : tie.Need-returns
+unfolding fits chained joined
+returns c =
+    let a = c .before .before .before .before .before .before .before .before .before .before .before .before .before .before .before .before .args in
+    chained-passes (shapeTests (a .s) (memory (a .main .now) (a .swap .now)))
+
+pub fits-spec : {M : Type 1} → statement M
+fits-spec =
+    tie.close
+    (tie.spec (λ c. search needs) (λ c. search needs) (λ c. search needs) (λ c. search needs) (λ c. search needs) (λ c. search needs)
+    (λ c. search needs) (λ c. search needs) (λ c. search needs) (λ c. search needs) (λ c. search needs) (λ c. search needs)
+    (λ c. search needs) (λ c. search needs) returns)

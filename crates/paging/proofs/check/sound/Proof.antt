@@ -1,0 +1,48 @@
+-- `check::sound`: a way out at each test that fails, and one behind them all.
+use mathlib.Core.Path.{_∙_}
+use borrow.Author.Tests.{ne-eqb, lt-leb}
+use Rattle.paging.proofs.Loops.{failed, passed}
+use Rattle.paging.proofs.Rows.{unsound, sound-so-far}
+use borrow.Author.Needs.{needs}
+use Rattle.paging.proofs.check.sound.Statement.{statement}
+use Rattle.paging.proofs.check.sound.Tie as tie
+
+returns : tie.Need-returns
+returns c = unsound _ _ 0 (ne-eqb _ _ (c .if1 .taken))
+
+returns-2 : tie.Need-returns-2
+returns-2 c = unsound _ _ 1 (lt-leb _ _ (c .if2 .taken))
+
+returns-3 : tie.Need-returns-3
+returns-3 c = unsound _ _ 2 (failed _ _ (c .before .held-in-table .ensures) (c .if3 .taken))
+
+returns-4 : tie.Need-returns-4
+returns-4 c = unsound _ _ 3 (failed _ _ (c .before .all-different .ensures) (c .if4 .taken))
+
+returns-5 : tie.Need-returns-5
+returns-5 c = unsound _ _ 4 (failed _ _ (c .before .rest-zero .ensures) (c .if5 .taken))
+
+frames-seated-requires : tie.Need-frames-seated-requires
+frames-seated-requires c κs = (search needs, search needs, passed _ _ (c .before .before .before .before .before .held-in-table .ensures) (c .before .before .before .before .if3 .left))
+
+returns-6 : tie.Need-returns-6
+returns-6 c = unsound _ _ 5 (failed _ _ (c .before .frames-seated .ensures) (c .if6 .taken))
+
+table-only-requires : tie.Need-table-only-requires
+table-only-requires c κs = (search needs, search needs, passed _ _ (c .before .frames-seated .ensures) (c .if6 .left))
+
+returns-7 : tie.Need-returns-7
+returns-7 c = unsound _ _ 6 (failed _ _ (c .before .table-only .ensures) (c .if7 .taken))
+
+returns-8 : tie.Need-returns-8
+returns-8 c =
+    c .hand-right .ensures
+    ∙ sound-so-far _ _ (c .before .before .before .before .before .before .before .before .before .before .before .before .before .before .if1 .left) (c .before .before .before .before .before .before .before .before .before .before .before .if2 .left) (passed _ _ (c .before .before .before .before .before .before .before .before .before .before .held-in-table .ensures) (c .before .before .before .before .before .before .before .before .before .if3 .left))
+    (passed _ _ (c .before .before .before .before .before .before .before .before .all-different .ensures) (c .before .before .before .before .before .before .before .if4 .left)) (passed _ _ (c .before .before .before .before .before .before .rest-zero .ensures) (c .before .before .before .before .before .if5 .left))
+    (passed _ _ (c .before .before .before .before .frames-seated .ensures) (c .before .before .before .if6 .left)) (passed _ _ (c .before .before .table-only .ensures) (c .before .if7 .left))
+
+pub sound-spec : {M : Type 1} → statement M
+sound-spec =
+    tie.close
+    (tie.spec (λ c. search needs) returns returns-2 (λ c κs. search needs) returns-3 (λ c κs. search needs) returns-4
+    (λ c κs. search needs) returns-5 frames-seated-requires returns-6 table-only-requires returns-7 (λ c κs. search needs) returns-8)

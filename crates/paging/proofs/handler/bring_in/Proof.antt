@@ -1,0 +1,33 @@
+-- `handler::bring_in`: the page is copied, then its entry is written.
+use mathlib.Core.Path.{ap}
+use native.Mathlib.Omega.{arith}
+use Rattle.paging.proofs.Ways.{into-steps}
+use borrow.Author.Needs.{needs}
+use Rattle.paging.proofs.handler.bring_in.Statement.{statement}
+use Rattle.paging.proofs.handler.bring_in.Tie as tie
+
+copy-page-requires : tie.Need-copy-page-requires
+copy-page-requires c κs = (
+  omega (arith, ap (λ p. p .0) (c .before .before .before .before .swap-of .ensures)),
+  omega (arith, ap (λ p. p .0) (c .before .before .before .frame-at .ensures)),
+)
+
+bring-entry-requires : tie.Need-bring-entry-requires
+bring-entry-requires c κs = (
+  search needs,
+  search needs,
+  omega (arith, ap (λ p. p .0) (c .before .before .before .before .before .before .before .frame-at .ensures)),
+)
+
+returns : tie.Need-returns
+returns c =
+    let a = c .before .before .before .before .before .before .before .before .before .before .before .before .before .before .args in
+    into-steps (a .s) (a .main .now) (a .swap .now) (a .f) (a .y) _ (c .before .before .before .before .before .before .before .before .before .before .frame-at .ensures)
+    _ (c .before .before .before .before .before .before .before .before .before .before .before .swap-of .ensures) _ _
+    (c .before .before .before .before .before .before .copy-page .ensures) (c .before .before .bring-entry .ensures)
+
+pub bring-in-spec : {M : Type 1} → statement M
+bring-in-spec =
+    tie.close
+    (tie.spec (λ c κs. search needs) (λ c κs. search needs) (λ c. search needs) (λ c. search needs) copy-page-requires
+    bring-entry-requires (λ c. search needs) returns)

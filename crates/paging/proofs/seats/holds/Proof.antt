@@ -1,0 +1,25 @@
+-- `seats::holds`: below the frames, behind those in use, or one of them.
+use Rattle.paging.proofs.Resident.{holds-below, holds-behind, holds-there}
+use borrow.Author.Needs.{needs}
+use Rattle.paging.proofs.seats.holds.Statement.{statement}
+use Rattle.paging.proofs.seats.holds.Tie as tie
+
+returns : tie.Need-returns
+returns c =
+    let a = c .before .before .before .args in
+    holds-below (a .s) (a .t2) (a .p) (a .x) (search needs)
+
+returns-2 : tie.Need-returns-2
+returns-2 c =
+    let a = c .before .before .before .before .before .before .args in
+    holds-behind (a .s) (a .t2) (a .p) (a .x) (search needs) (search needs)
+
+returns-3 : tie.Need-returns-3
+returns-3 c =
+    let a = c .before .before .before .before .before .before .before .before .before .args in
+    holds-there (a .s) (a .t2) (a .p) (a .x) (search needs) (search needs)
+
+pub holds-spec : {M : Type 1} → statement M
+holds-spec =
+    tie.close
+    (tie.spec returns returns-2 (λ c. search needs) (λ c. search needs) (λ c. search needs) returns-3)

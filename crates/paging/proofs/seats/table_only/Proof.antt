@@ -1,0 +1,50 @@
+-- `seats::table_only`: the first x entries are right.
+use mathlib.Core.Path.{_≡_}
+use mathlib.Core.Bool.{true}
+use mathlib.Core.Logic.{⊎-elim}
+use Prim.Native.Nat.{_≤_, _-_}
+use Rattle.model.specs.Choice.{everyBelow}
+use Rattle.model.specs.Pages.{virtual}
+use Rattle.paging.specs.Tests.{entryRight}
+use Rattle.paging.proofs.Loops.{none-yet, one-more, fails, all-passed, failed, passed}
+use Rattle.paging.proofs.Resident.{right-away, right-here}
+use borrow.Author.Needs.{needs}
+use Rattle.paging.proofs.seats.table_only.Statement.{statement}
+use Rattle.paging.proofs.seats.table_only.Tie as tie
+
+abbrev Inv-loop : tie.InvT-loop
+Inv-loop s b main x₀ x = (x ≤ s .ptl) × (everyBelow x (λ k. entryRight s b main (virtual k)) ≡ true)
+
+abbrev μ-loop : tie.MeasureT-loop
+μ-loop s b main x₀ x = s .ptl - x
+
+loop-holds : tie.Need-loop-holds Inv-loop μ-loop
+loop-holds c = (search needs, none-yet _)
+
+returns : tie.Need-returns Inv-loop μ-loop
+returns c =
+    let a = c .before .before .before .before .before .before .before .before .before .args in
+    fails _ (λ k. entryRight (a .s) (a .b) (a .main .now) (virtual k)) _ (search needs)
+    (failed _ _ (right-here (a .s) (a .b) (a .main .now) _ _ (c .before .before .before .before .entry .ensures) (c .before .before .before .before .before .before .before .before .before .pre .2) (c .before .before .before .if2 .taken) _ (c .before .before .ppx .ensures) _ (c .before .holds .ensures))
+    (c .if3 .taken))
+
+loop-again : tie.Need-loop-again Inv-loop μ-loop
+loop-again c =
+    let a = c .before .before .before .before .before .before .args in
+    let e = c .before .entry .ensures in (
+      search needs,
+      one-more _ _ (c .before .before .before .before .loop .inv .1)
+          (⊎-elim
+          (λ w. passed _ _ (right-here (a .s) (a .b) (a .main .now) _ _ e (c .before .before .before .before .before .before .pre .2) (w .0 .taken) _ (w .1 .ensures) _ (w .2 .ensures)) (w .3 .left))
+          (λ w. right-away (a .s) (a .b) (a .main .now) _ _ e (w .left))
+          (c .if2 .came)),
+    )
+
+returns-2 : tie.Need-returns-2 Inv-loop μ-loop
+returns-2 c = all-passed _ _ _ (c .before .before .loop .inv .1) (search needs) (search needs)
+
+pub table-only-spec : {M : Type 1} → statement M
+table-only-spec =
+    tie.close
+    (tie.spec Inv-loop μ-loop loop-holds (λ c κs. search needs) (λ c κs. search needs) (λ c κs. search needs) returns
+    (λ c. search needs) (λ c. search needs) loop-again returns-2)

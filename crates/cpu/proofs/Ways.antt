@@ -37,12 +37,6 @@ pub inside : (s : Shape) (main : List ℕ) → Safe s main → (writing : Bool) 
     → a ≡ translate s main writing va → (i : ℕ) → a ≡ At i → va % size width ≡ 0 → i + size width ≤ length main
 inside s main g writing width va a e i q y = in-main s main g writing width va i (eq-eqb _ _ y) (sym e ∙ q)
 
--- n bytes are a number below 256^n
-pub number-below : (l : List ℕ) → ((k : ℕ) → getD l k 0 < 256) → (n i : ℕ) → number n l i < 256 ^ n
-unfolding number
-number-below l h zero i = omega arith
-number-below l h (suc n) i = rw (pow-suc 256 n) (omega (arith, h i, number-below l h n (suc i)))
-
 module _ (access : Bool → ℕ → Access) (gpr bytes : List ℕ) (p : Pcs) where
   -- misaligned, illegal, a fault, granted at i; a is what the access says
   module _ (writing : Bool) (width : Width) (va : ℕ) (granted : ℕ → Tried) where

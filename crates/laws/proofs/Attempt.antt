@@ -90,7 +90,7 @@ zero-kept gpr i v z = pick (eqb i 0) refl
     pick false e = getD-set-other gpr i 0 v 0 (λ q. false≢true (sym e ∙ ap (λ (k : ℕ). eqb k 0) (sym q))) ∙ z
 
 -- the facts of the table go over to a main memory with the same entries
-seated-over : (s : Shape) (b : FrameBook) (main main′ : List ℕ) → ((x : VirtualPage) → x .0 < s .ptl → entry s main′ x ≡ entry s main x)
+pub seated-over : (s : Shape) (b : FrameBook) (main main′ : List ℕ) → ((x : VirtualPage) → x .0 < s .ptl → entry s main′ x ≡ entry s main x)
     → Seated s b main → Seated s b main′
 seated-over s b main main′ e g = record {
   array = g .array;

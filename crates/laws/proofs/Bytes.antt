@@ -72,6 +72,12 @@ number-store (suc n) l i v h =
     ∙ ap (λ (x : ℕ). v % 256 + x) (mul-comm 256 (v / 256 % 256 ^ n)) ∙ add-comm (v % 256) (v / 256 % 256 ^ n * 256)
     ∙ sym (ap (λ (x : ℕ). v % x) (pow-suc 256 n) ∙ mod-mul v (some-power n) (lit< tt))
 
+-- n bytes are a number below 256^n
+pub number-below : (l : List ℕ) → ((k : ℕ) → getD l k 0 < 256) → (n i : ℕ) → number n l i < 256 ^ n
+unfolding number
+number-below l h zero i = omega arith
+number-below l h (suc n) i = rw (pow-suc 256 n) (omega (arith, h i, number-below l h n (suc i)))
+
 -- a number beside a store
 pub number-other : (n k : ℕ) (l : List ℕ) (i v j : ℕ) → ((m : ℕ) → m < k → Off i n (j + m)) → number k (store n l i v) j ≡ number k l j
 number-other n k l i v j h = number-same k (store n l i v) l j j (λ m q. store-other n l i v (j + m) 0 (h m q))

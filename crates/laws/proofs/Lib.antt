@@ -23,3 +23,8 @@ pub mod Frame
 pub mod Sentences
 pub mod Formed
 pub mod Fresh
+pub mod Poke
+pub mod Host
+pub mod Granted
+pub mod Again
+pub mod Calls

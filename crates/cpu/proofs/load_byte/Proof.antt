@@ -3,7 +3,8 @@ use mathlib.Core.Logic.{⊎-elim}
 use mathlib.Core.Bool.{false}
 use native.Mathlib.Omega.{arith}
 use Rattle.model.specs.Attempt.{byte, loading}
-use Rattle.cpu.proofs.Ways.{inside, number-below, transfer-illegal, transfer-fault, loading-at}
+use Rattle.laws.proofs.Bytes.{number-below}
+use Rattle.cpu.proofs.Ways.{inside, transfer-illegal, transfer-fault, loading-at}
 use borrow.Author.Needs.{needs}
 use Rattle.cpu.proofs.load_byte.Statement.{statement}
 use Rattle.cpu.proofs.load_byte.Tie as tie

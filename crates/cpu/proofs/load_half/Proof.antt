@@ -3,7 +3,8 @@ use mathlib.Core.Logic.{⊎-elim}
 use mathlib.Core.Bool.{false}
 use native.Mathlib.Omega.{arith}
 use Rattle.model.specs.Attempt.{half, loading}
-use Rattle.cpu.proofs.Ways.{inside, number-below, transfer-odd, transfer-illegal, transfer-fault, loading-at}
+use Rattle.laws.proofs.Bytes.{number-below}
+use Rattle.cpu.proofs.Ways.{inside, transfer-odd, transfer-illegal, transfer-fault, loading-at}
 use borrow.Author.Needs.{needs}
 use Rattle.cpu.proofs.load_half.Statement.{statement}
 use Rattle.cpu.proofs.load_half.Tie as tie

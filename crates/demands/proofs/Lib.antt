@@ -1,0 +1,9 @@
+pub mod Decide
+pub mod Told
+pub mod Demand1
+pub mod Unique
+pub mod Wants
+pub mod Turns
+pub mod OrderLength
+pub mod Stories
+pub mod Demand3

@@ -1,0 +1,27 @@
+-- `format::well_formed`: three steps of the row.
+use Rattle.image.proofs.Tests.{distances-wrong, rights-wrong, the-rest}
+use borrow.Author.Needs.{needs}
+use Rattle.image.proofs.format.well_formed.Statement.{statement}
+use Rattle.image.proofs.format.well_formed.Tie as tie
+
+returns : tie.Need-returns
+returns c =
+    let k = c .before .before .before in
+    distances-wrong _ (k .args .t) (k .pre) _ (c .before .distances-right .ensures) (c .if1 .taken)
+
+returns-2 : tie.Need-returns-2
+returns-2 c =
+    let k = c .before .before .before .before .before .before in
+    rights-wrong _ (k .args .t) (k .pre) _ (c .before .before .before .before .distances-right .ensures) (c .before .before .before .if1 .left)
+    _ (c .before .before .rights-of .ensures) _ (c .before .rights-right .ensures) (c .if2 .taken)
+
+returns-3 : tie.Need-returns-3
+returns-3 c =
+    let k = c .before .before .before .before .before .before .before in
+    the-rest _ (k .args .t) (k .pre) _ (c .before .before .before .before .before .distances-right .ensures) (c .before .before .before .before .if1 .left)
+    _ (c .before .before .before .rights-of .ensures) _ (c .before .before .rights-right .ensures) (c .before .if2 .left) _ (c .start-and-frames-right .ensures)
+
+pub well-formed-spec : {M : Type 1} → statement M
+well-formed-spec =
+    tie.close
+    (tie.spec (λ c κs. search needs) returns (λ c κs. search needs) (λ c κs. search needs) returns-2 (λ c κs. search needs) returns-3)

@@ -1,0 +1,57 @@
+-- `load`: refused by the image, refused for its room, or loaded.
+use Rattle.image.proofs.Loads.{not-image, no-room, few-pages, table-fits, pages-fit, loaded}
+use mathlib.Core.Path.{sym, _∙_}
+use borrow.Author.Needs.{needs}
+use Rattle.image.proofs.load.Statement.{statement}
+use Rattle.image.proofs.load.Tie as tie
+
+returns : tie.Need-returns
+returns c =
+    let k = c .before .before in
+    let a = k .before .before .before .before .before .before .before .before .args in
+    no-room (a .file .now) (a .main .now) (a .swap .now) _ _ _
+    (sym (k .before .before .before .before .answer .ensures) ∙ k .before .before .ptl .given .1) _ (k .room .ensures) (c .before .if1 .taken) _ (c .refused2 .ensures)
+
+machine-requires : tie.Need-machine-requires
+machine-requires c κs =
+    let k = c .before in
+    let a = k .before .before .before .before .before .before .before .before .args in
+    few-pages (a .file .now) (a .main .now) (a .swap .now) _ _ _
+    (sym (k .before .before .before .before .answer .ensures) ∙ k .before .before .ptl .given .1) _ (k .room .ensures) (c .if1 .left)
+
+fill-main-requires : tie.Need-fill-main-requires
+fill-main-requires c κs =
+    let k = c .before .before .before .before in
+    let a = k .before .before .before .before .before .before .before .before .args in
+    table-fits (a .file .now) (a .main .now) (a .swap .now) _ _ _
+    (sym (k .before .before .before .before .answer .ensures) ∙ k .before .before .ptl .given .1) _ (k .room .ensures) (c .before .before .before .if1 .left) _ (c .before .rights-of .ensures)
+
+fill-swap-requires : tie.Need-fill-swap-requires
+fill-swap-requires c κs =
+    let k = c .before .before .before .before .before .before .before .before .before in
+    let a = k .before .before .before .before .before .before .before .before .args in
+    pages-fit (a .file .now) (a .main .now) (a .swap .now) _ _ _
+    (sym (k .before .before .before .before .answer .ensures) ∙ k .before .before .ptl .given .1) _ (k .room .ensures) (c .before .before .before .before .before .before .before .before .if1 .left) _ (c .before .pages-of .ensures)
+
+returns-2 : tie.Need-returns-2
+returns-2 c =
+    let k = c .before .before .before .before in
+    let a = k .before .before .before .before .args in
+    not-image (a .file .now) (a .main .now) (a .swap .now) _ (sym (k .answer .ensures) ∙ c .before .before .refusal .given .1) _ (c .refused .ensures)
+
+returns-3 : tie.Need-returns-3
+returns-3 c =
+    let k = c .before .before .before .before .before .before .before .before .before .before .before .before in
+    let a = k .before .before .before .before .before .before .before .before .args in
+    loaded (a .file .now) (a .main .now) (a .swap .now) _ _ _
+    (sym (k .before .before .before .before .answer .ensures) ∙ k .before .before .ptl .given .1) _ (k .room .ensures) (c .before .before .before .before .before .before .before .before .before .before .before .if1 .left) _
+    (c .before .before .before .before .before .before .before .before .before .before .machine .ensures) _ _ _ _
+    (c .before .before .before .before .before .before .before .before .before .rights-of .ensures) (c .before .before .before .before .pages-of .ensures)
+    (c .before .before .before .before .before .before .before .fill-main .ensures) (c .before .before .fill-swap .ensures)
+
+pub load-spec : {M : Type 1} → statement M
+load-spec =
+    tie.close
+    (tie.spec (λ c κs. search needs) (λ c. search needs) (λ c κs. search needs) (λ c. search needs) (λ c κs. search needs)
+    (λ c κs. search needs) returns machine-requires (λ c κs. search needs) fill-main-requires (λ c κs. search needs)
+    fill-swap-requires returns-2 (λ c. search needs) (λ c. search needs) returns-3)

@@ -1,0 +1,4 @@
+pub mod Trailer
+pub mod Sections
+pub mod Format
+pub mod Fresh

@@ -1,0 +1,17 @@
+-- The sections of a file, by the ptl that one has read: total, so that code may ask for them by any number.
+use mathlib.Core.Bool.{_&&_}
+use mathlib.Core.List.{List, []}
+use Prim.Native.Nat.{ℕ, _+_, _-_, _*_}
+use lib.Dec.{leb}
+use lib.ListN.{length, take, drop}
+use Rattle.model.specs.Choice.{if_then_else_}
+
+-- the n bytes that begin `back` bytes before the end; none where the file has no such part
+unfoldable pub section : List ℕ → ℕ → ℕ → List ℕ
+section l back n = if leb n back && leb back (length l) then take n (drop (length l - back) l) else []
+
+abbrev pub rightsBy : List ℕ → ℕ → List ℕ
+rightsBy l ptl = section l (24 + ptl) ptl
+
+abbrev pub pagesBy : List ℕ → ℕ → List ℕ
+pagesBy l ptl = section l (24 + ptl + 4096 * ptl) (4096 * ptl)

@@ -1,0 +1,156 @@
+-- The calls on a good machine: what is handed out and what is written, where they are granted, against the flat memory (`read-call`,
+-- `view-call`, `write-call`, `reply-call`); and refused or not the machine stays good (`call-good`) and of its shape (`call-size`).
+use mathlib.Core.Path.{_≡_, refl, ap, ap₂, _∙_}
+use mathlib.Core.Bool.{true, false}
+use mathlib.Core.List.{List, _++_}
+use Prim.Native.Nat.{ℕ, _+_, _*_}
+use native.Mathlib.Omega.{arith}
+use lib.ListN.{length, getD, take, drop, set}
+use lib.Seq.{getD-set-other}
+use Rattle.model.specs.Bytes.{page}
+use Rattle.model.specs.State.{State}
+use Rattle.model.specs.Run.{uncounted}
+use Rattle.model.specs.Flat.{Flat, flat}
+use Rattle.model.specs.Calls.{runVerdict, runBy, runCall, hostVerdict, readBy, readCall, bytesTo, writeBy, writeCall, viewVerdict, viewBy, viewCall, replyVerdict, replyBy, replyCall}
+use Rattle.model.specs.Series.{Call, runs, reads, writes, views, replies, after}
+use Rattle.model.specs.declared.Machine.{Machine}
+use Rattle.model.specs.declared.VirtualPage.{VirtualPage}
+use Rattle.model.specs.declared.Verdict.{Verdict}
+use Rattle.model.specs.declared.Verdict.the-variants.{Granted, Refused}
+use Rattle.laws.specs.Good.{Good}
+use Rattle.laws.specs.Mapped.{SameSize}
+use Rattle.laws.proofs.Bytes.{Off}
+use Rattle.laws.proofs.Size.{same-size}
+use Rattle.laws.proofs.Run.{run-right}
+use Rattle.laws.proofs.Poke.{kept-rights, kept-fit, kept-seated}
+use Rattle.laws.proofs.Host.{Wrote, wrote, sets-put, read-flat, view-flat}
+use Rattle.laws.proofs.Granted.{refused, host-inside, view-inside, reply-register}
+
+-- a reply is the same on every machine
+pub reply-call : (m : Machine) (i v : ℕ) → replyCall m i v .refused ≡ 0
+    → replyCall m i v .machine ≡ record { shape = m .shape; book = m .book; gpr = set (m .gpr) i v; pcs = m .pcs }
+unfolding replyCall
+reply-call m i v = by (replyVerdict i)
+  where
+    by : (w : Verdict) → replyBy w m i v .refused ≡ 0
+        → replyBy w m i v .machine ≡ record { shape = m .shape; book = m .book; gpr = set (m .gpr) i v; pcs = m .pcs }
+    by Granted e = refl
+    by (Refused r) e = refused r e
+
+module _ (p : State) (g : Good p) where
+  pub read-call : (va : ℕ) (buffer : List ℕ) → readCall p va buffer .refused ≡ 0
+      → readCall p va buffer .buffer ≡ take (length buffer) (drop va (flat p .bytes))
+  unfolding readCall flat
+  read-call va buffer = by (hostVerdict false p va (length buffer)) refl
+    where
+      by : (v : Verdict) → hostVerdict false p va (length buffer) ≡ v → readBy v p va buffer .refused ≡ 0
+          → readBy v p va buffer .buffer ≡ take (length buffer) (drop va (flat p .bytes))
+      by Granted q e = read-flat (p .machine .shape) (p .memory) va (length buffer) (host-inside false p va (length buffer) q)
+      by (Refused r) q e = refused r e
+
+  pub view-call : (x : VirtualPage) → viewCall p x .refused ≡ 0 → viewCall p x .part ≡ page (flat p .bytes) (x .0)
+  unfolding viewCall flat
+  view-call x = by (viewVerdict p x) refl
+    where
+      by : (v : Verdict) → viewVerdict p x ≡ v → viewBy v p x .refused ≡ 0 → viewBy v p x .part ≡ page (flat p .bytes) (x .0)
+      by Granted q e = view-flat (p .machine .shape) (p .machine .book) (p .memory) (g .fit) (g .whole) (g .seated) x (view-inside p x q)
+      by (Refused r) q e = refused r e
+
+  -- ---- a write
+  module _ (va : ℕ) (bytes : List ℕ) where
+    granted : hostVerdict true p va (length bytes) ≡ Granted → Wrote (p .machine .shape) (p .memory) va bytes (bytesTo (p .machine .shape) (p .memory) va bytes)
+    granted q =
+        wrote (p .machine .shape) (p .machine .book) (p .memory) (g .fit) (g .whole) (g .seated) va bytes (host-inside true p va (length bytes) q)
+
+    -- the flat machine with these bytes from va on
+    abbrev pub flat-written : Flat
+    flat-written = record {
+      gpr = flat p .gpr;
+      pcs = flat p .pcs;
+      bytes = take va (flat p .bytes) ++ bytes ++ drop (va + length bytes) (flat p .bytes);
+      rights = flat p .rights;
+    }
+
+    pub write-call : writeCall p va bytes .refused ≡ 0 → flat (writeCall p va bytes .state) ≡ flat-written
+    unfolding writeCall flat
+    write-call = by (hostVerdict true p va (length bytes)) refl
+      where
+        by : (v : Verdict) → hostVerdict true p va (length bytes) ≡ v → writeBy v p va bytes .refused ≡ 0
+            → flat (writeBy v p va bytes .state) ≡ flat-written
+        by Granted q e =
+            ap₂ {C = Flat} (λ l rights. record { gpr = p .machine .gpr; pcs = p .machine .pcs; bytes = l; rights = rights })
+            (granted q .stored ∙ sets-put (p .machine .shape) (p .memory) va bytes (host-inside true p va (length bytes) q))
+            (kept-rights (p .machine .shape) (p .memory) (bytesTo (p .machine .shape) (p .memory) va bytes) (g .fit) (granted q .kept))
+        by (Refused r) q e = refused r e
+
+    -- refused or not
+    pub write-machine : writeCall p va bytes .state .machine ≡ p .machine
+    unfolding writeCall
+    write-machine = by (hostVerdict true p va (length bytes))
+      where
+        by : (v : Verdict) → writeBy v p va bytes .state .machine ≡ p .machine
+        by Granted = refl
+        by (Refused r) = refl
+
+    pub write-off : (j : ℕ) → Off (4096 * p .machine .shape .abase) (4096 * p .machine .shape .frames) j
+        → getD (writeCall p va bytes .state .memory .main) j 0 ≡ getD (p .memory .main) j 0
+    unfolding writeCall
+    write-off j o = by (hostVerdict true p va (length bytes)) refl
+      where
+        by : (v : Verdict) → hostVerdict true p va (length bytes) ≡ v → getD (writeBy v p va bytes .state .memory .main) j 0 ≡ getD (p .memory .main) j 0
+        by Granted q = granted q .kept .off j o
+        by (Refused r) q = refl
+
+    write-good : Good (writeCall p va bytes .state)
+    unfolding writeCall
+    write-good = by (hostVerdict true p va (length bytes)) refl
+      where
+        by : (v : Verdict) → hostVerdict true p va (length bytes) ≡ v → Good (writeBy v p va bytes .state)
+        by Granted q = record {
+          fit = kept-fit (p .machine .shape) (p .memory) (bytesTo (p .machine .shape) (p .memory) va bytes) (g .fit) (granted q .kept);
+          whole = granted q .kept .swap-long ∙ g .whole;
+          seated = kept-seated (p .machine .shape) (p .memory) (bytesTo (p .machine .shape) (p .memory) va bytes) (g .fit) (granted q .kept) (p .machine .book) (g .seated);
+          zero = g .zero;
+        }
+        by (Refused r) q = g
+
+  -- ---- every call, refused or not
+  pub call-good : (c : Call) → Good (after p c)
+  unfolding after runCall replyCall
+  call-good (runs n) = by (runVerdict p n)
+    where
+      by : (v : Verdict) → Good (runBy v p n .state)
+      by Granted = run-right n (uncounted p) g .good
+      by (Refused r) = g
+  call-good (reads va n) = g
+  call-good (writes va bytes) = write-good va bytes
+  call-good (views x) = g
+  call-good (replies i v) = by (replyVerdict i) refl
+    where
+      by : (w : Verdict) → replyVerdict i ≡ w → Good (record { machine = replyBy w (p .machine) i v .machine; memory = p .memory })
+      by Granted q = record {
+        fit = g .fit;
+        whole = g .whole;
+        seated = g .seated;
+        zero = getD-set-other (p .machine .gpr) i 0 v 0 (λ e. omega (arith, e, reply-register i q)) ∙ g .zero;
+      }
+      by (Refused r) q = g
+
+  call-shape : (c : Call) → after p c .machine .shape ≡ p .machine .shape
+  unfolding after runCall replyCall
+  call-shape (runs n) = by (runVerdict p n)
+    where
+      by : (v : Verdict) → runBy v p n .state .machine .shape ≡ p .machine .shape
+      by Granted = run-right n (uncounted p) g .size .shape
+      by (Refused r) = refl
+  call-shape (reads va n) = refl
+  call-shape (writes va bytes) = ap (λ m. m .shape) (write-machine va bytes)
+  call-shape (views x) = refl
+  call-shape (replies i v) = by (replyVerdict i)
+    where
+      by : (w : Verdict) → replyBy w (p .machine) i v .machine .shape ≡ p .machine .shape
+      by Granted = refl
+      by (Refused r) = refl
+
+  pub call-size : (c : Call) → SameSize p (after p c)
+  call-size c = same-size p (after p c) g (call-good c) (call-shape c)

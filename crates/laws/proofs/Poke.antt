@@ -1,0 +1,127 @@
+-- One byte that the host writes: it goes where the flat memory has it, in a frame or in swap (`poke-flat`); the table stays, and so does
+-- main memory outside the frames (`poke-kept`).
+use mathlib.Core.Path.{_≡_, refl, sym, ap, subst⁻¹, _∙_}
+use mathlib.Core.Bool.{Bool, true, false}
+use Prim.Native.Nat.{ℕ, _+_, _*_, _<_, _≤_}
+use native.Mathlib.Omega.{arith}
+use native.Mathlib.Decide.{ℕ-discrete}
+use lib.ListN.{length, getD, set, length-set}
+use lib.Seq.{getD-set-same, getD-set-other, ext-getD}
+use Rattle.model.specs.Pages.{virtual, pageOf, offset, entryAt, mainAt, swapOf, swapAt}
+use Rattle.model.specs.Table.{entry, ppx, valid}
+use Rattle.model.specs.Frames.{pageIn}
+use Rattle.model.specs.State.{Memory}
+use Rattle.model.specs.Translate.{flatByte}
+use Rattle.model.specs.Flat.{rightsByte, flatBytes, flatRights}
+use Rattle.model.specs.Calls.{poke}
+use Rattle.model.specs.declared.Shape.{Shape}
+use Rattle.model.specs.declared.FrameBook.{FrameBook}
+use Rattle.model.specs.declared.VirtualPage.{VirtualPage}
+use Rattle.laws.proofs.Attempt.{seated-over}
+use Rattle.laws.specs.Good.{Fit, SwapLong, Seated}
+use Rattle.laws.proofs.Choice.{length-below, below-same}
+use Rattle.laws.proofs.Bytes.{Off, number-same}
+use Rattle.laws.proofs.Seated.{in-frames, apart}
+use Rattle.laws.proofs.Table.{flat-here, flat-away, flat-same}
+use Rattle.laws.proofs.Access.{bytes-at}
+
+-- ---- what a host write keeps
+pub record Kept (s : Shape) (m m′ : Memory) : Type 0 where
+  pub main-long : length (m′ .main) ≡ length (m .main)
+  pub swap-long : length (m′ .swap) ≡ length (m .swap)
+  pub off : (j : ℕ) → Off (4096 * s .abase) (4096 * s .frames) j → getD (m′ .main) j 0 ≡ getD (m .main) j 0
+
+module _ (s : Shape) (m m′ : Memory) (fit : Fit s (length (m .main))) (k : Kept s m m′) where
+  kept-entry : (x : VirtualPage) → x .0 < s .ptl → entry s (m′ .main) x ≡ entry s (m .main) x
+  unfolding entry
+  kept-entry x h =
+      number-same 4 (m′ .main) (m .main) (entryAt s x) (entryAt s x)
+      (λ i r. k .off (entryAt s x + i) (λ z. absurd (omega (arith, z, fit .table-in))))
+
+  pub kept-rights : flatRights s (m′ .main) ≡ flatRights s (m .main)
+  kept-rights = below-same (s .ptl) _ _ (λ x h. ap rightsByte (kept-entry (virtual x) h))
+
+  pub kept-fit : Fit s (length (m′ .main))
+  kept-fit = subst⁻¹ (λ (n : ℕ). Fit s n) (k .main-long) fit
+
+  pub kept-seated : (b : FrameBook) → Seated s b (m .main) → Seated s b (m′ .main)
+  kept-seated b g = seated-over s b (m .main) (m′ .main) kept-entry g
+
+-- ---- one byte
+module _ (s : Shape) (b : FrameBook) (m : Memory) (fit : Fit s (length (m .main))) (whole : SwapLong s (length (m .swap))) (g : Seated s b (m .main))
+    (va x : ℕ) (inside : pageOf va .0 < s .ptl) where
+  -- where the page is in a frame, and where it is in swap
+  abbrev in-main : ℕ
+  in-main = mainAt (ppx (entry s (m .main) (pageOf va))) (offset va)
+
+  abbrev in-swap : ℕ
+  in-swap = swapAt (swapOf s (pageOf va)) (offset va)
+
+  poke-here : valid (entry s (m .main) (pageOf va)) ≡ true → poke s m va x ≡ record { main = set (m .main) in-main x; swap = m .swap }
+  unfolding poke
+  poke-here v = rw (poke, v)
+
+  poke-away : valid (entry s (m .main) (pageOf va)) ≡ false → poke s m va x ≡ record { main = m .main; swap = set (m .swap) in-swap x }
+  unfolding poke
+  poke-away v = rw (poke, v)
+
+  framed : valid (entry s (m .main) (pageOf va)) ≡ true → (4096 * s .abase ≤ in-main) × (in-main < 4096 * (s .abase + s .frames))
+  framed v =
+      let f : (s .abase ≤ ppx (entry s (m .main) (pageOf va)) .0) × (ppx (entry s (m .main) (pageOf va)) .0 < s .abase + s .frames)
+      = in-frames s b (m .main) g (pageOf va) inside v in
+      (omega arith, omega arith)
+
+  -- the two cases
+  by-page : (P : Memory → Type 0)
+      → (valid (entry s (m .main) (pageOf va)) ≡ true → P (record { main = set (m .main) in-main x; swap = m .swap }))
+      → (valid (entry s (m .main) (pageOf va)) ≡ false → P (record { main = m .main; swap = set (m .swap) in-swap x }))
+      → P (poke s m va x)
+  by-page P here away = pick (valid (entry s (m .main) (pageOf va))) refl
+    where
+      pick : (c : Bool) → valid (entry s (m .main) (pageOf va)) ≡ c → P (poke s m va x)
+      pick true v = subst⁻¹ P (poke-here v) (here v)
+      pick false v = subst⁻¹ P (poke-away v) (away v)
+
+  pub poke-kept : Kept s m (poke s m va x)
+  poke-kept =
+      by-page (Kept s m)
+      (λ v. record {
+        main-long = length-set (m .main) in-main x;
+        swap-long = refl;
+        off = λ j o. getD-set-other (m .main) in-main j x 0 (λ e. omega (arith, framed v, o (omega (arith, framed v))));
+      })
+      (λ v. record { main-long = refl; swap-long = length-set (m .swap) in-swap x; off = λ j o. refl })
+
+  -- the byte itself, and another
+  poke-same : flatByte s (poke s m va x) va ≡ x
+  poke-same =
+      by-page (λ m′. entry s (m′ .main) (pageOf va) ≡ entry s (m .main) (pageOf va) → flatByte s m′ va ≡ x)
+      (λ v e. flat-here s _ va (ap valid e ∙ v) ∙ ap (λ (k : ℕ). getD (set (m .main) in-main x) (mainAt (ppx k) (offset va)) 0) e
+      ∙ getD-set-same (m .main) in-main x 0 (omega (arith, framed v, fit .frames-in, fit .main-long)))
+      (λ v e. flat-away s _ va (ap valid e ∙ v) ∙ getD-set-same (m .swap) in-swap x 0 (omega (arith, whole, inside)))
+      (kept-entry s m (poke s m va x) fit poke-kept (pageOf va) inside)
+
+  poke-other : (j : ℕ) → j < 4096 * s .ptl → (j ≡ va → ⊥) → flatByte s (poke s m va x) j ≡ flatByte s m j
+  poke-other j h n =
+      by-page (λ m′. entry s (m′ .main) (pageOf j) ≡ entry s (m .main) (pageOf j) → flatByte s m′ j ≡ flatByte s m j)
+      (λ v e. flat-same s m _ j e (λ w. getD-set-other (m .main) in-main (mainAt (ppx (entry s (m .main) (pageOf j))) (offset j)) x 0 (main-apart v w)) (λ w. refl))
+      (λ v e. flat-same s m _ j e (λ w. refl) (λ w. getD-set-other (m .swap) in-swap (swapAt (swapOf s (pageOf j)) (offset j)) x 0 (λ q. n (omega (arith, q)))))
+      (kept-entry s m (poke s m va x) fit poke-kept (pageOf j) (omega arith))
+    where
+      main-apart : valid (entry s (m .main) (pageOf va)) ≡ true → valid (entry s (m .main) (pageOf j)) ≡ true
+          → mainAt (ppx (entry s (m .main) (pageOf j))) (offset j) ≡ in-main → ⊥
+      main-apart v w q =
+          let c : pageOf j ≡ pageOf va = apart s b (m .main) g (pageOf j) (pageOf va) (omega arith) inside w v (omega (arith, q)) in
+          n (omega (arith, q, ap (λ (z : VirtualPage). z .0) c))
+
+  pub poke-flat : flatBytes s (poke s m va x) ≡ set (flatBytes s m) va x
+  poke-flat =
+      ext-getD 0 (flatBytes s (poke s m va x)) (set (flatBytes s m) va x) (simp (length-set, length-below))
+      (λ j h. let l : j < 4096 * s .ptl = simp length-below at h in bytes-at s (poke s m va x) j l ∙ pick j l (ℕ-discrete j va))
+    where
+      pick : (j : ℕ) → j < 4096 * s .ptl → Dec (j ≡ va) → flatByte s (poke s m va x) j ≡ getD (set (flatBytes s m) va x) j 0
+      pick j l (yes e) =
+          ap (flatByte s (poke s m va x)) e ∙ poke-same
+          ∙ sym (ap (λ (k : ℕ). getD (set (flatBytes s m) va x) k 0) e
+          ∙ getD-set-same (flatBytes s m) va x 0 (omega (arith, inside, length-below (4096 * s .ptl) (λ z. flatByte s m z))))
+      pick j l (no n) = poke-other j l n ∙ sym (getD-set-other (flatBytes s m) va j x 0 n ∙ bytes-at s m j l)

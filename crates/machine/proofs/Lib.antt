@@ -1,0 +1,6 @@
+pub mod Bytes
+pub mod Rights
+pub mod Verdicts
+pub mod Length
+pub mod Outcomes
+pub mod Runs

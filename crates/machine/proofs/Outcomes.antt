@@ -1,0 +1,110 @@
+-- The outcome of each call, by its verdict.
+use mathlib.Core.Path.{_≡_, sym, ap, _∙_}
+use mathlib.Core.Bool.{Bool, true, false, _&&_}
+use mathlib.Core.List.{List, []}
+use Prim.Native.Nat.{ℕ, _+_, _-_, _*_, _≤_, _<_}
+use native.Mathlib.Omega.{arith}
+use lib.ListN.{length, set, take, drop}
+use borrow.Author.Tests.{le-leb, lt-leb}
+use Rattle.model.specs.Bytes.{page}
+use Rattle.model.specs.Pages.{mainAt, swapAt, offset}
+use Rattle.model.specs.State.{State, Memory, state}
+use Rattle.model.specs.Answers.{verdictNumber}
+use Rattle.model.specs.Calls.{ReadOutcome, StateOutcome, ReplyOutcome, hostVerdict, bytesFrom, readCall, bytesTo, writeCall, viewVerdict, pageBytes, viewCall, replyVerdict, replyCall}
+use Rattle.model.specs.declared.Shape.{Shape}
+use Rattle.model.specs.declared.Machine.{Machine}
+use Rattle.model.specs.declared.VirtualPage.{VirtualPage}
+use Rattle.model.specs.declared.MainPage.{MainPage}
+use Rattle.model.specs.declared.SwapPage.{SwapPage}
+use Rattle.model.specs.declared.Refusal.{Refusal}
+use Rattle.model.specs.declared.Refusal.the-variants.{TooMuch}
+use Rattle.model.specs.declared.Verdict.{Verdict}
+use Rattle.model.specs.declared.Verdict.the-variants.{Granted, Refused}
+use Rattle.paging.specs.Ready.{memory}
+use Rattle.words.proofs.Copies.{part-page}
+use Rattle.machine.specs.declared.home.Home.the-variants.{Main, Swap}
+use Rattle.machine.specs.Home.{homeOf, Lent}
+use Rattle.machine.proofs.Bytes.{InMain, InSwap, in-main, in-swap}
+
+-- ---- host read
+module _ (p : State) (va : ℕ) (buffer : List ℕ) where
+  pub read-refused : (r : Refusal) → hostVerdict false p va (length buffer) ≡ Refused r
+      → record { refused = verdictNumber (Refused r); buffer = buffer } ≡ readCall p va buffer
+  unfolding readCall
+  read-refused r e = simp e
+
+  pub read-done : hostVerdict false p va (length buffer) ≡ Granted → (b : List ℕ) → b ≡ bytesFrom (p .machine .shape) (p .memory) va (length buffer)
+      → record { refused = verdictNumber Granted; buffer = b } ≡ readCall p va buffer
+  unfolding readCall
+  read-done e b h = simp (e, h)
+
+-- ---- host write
+module _ (p : State) (va : ℕ) (bytes : List ℕ) where
+  pub write-refused : (r : Refusal) → hostVerdict true p va (length bytes) ≡ Refused r
+      → record { refused = verdictNumber (Refused r); state = p } ≡ writeCall p va bytes
+  unfolding writeCall
+  write-refused r e = simp e
+
+  pub write-done : hostVerdict true p va (length bytes) ≡ Granted → (m : Memory) → m ≡ bytesTo (p .machine .shape) (p .memory) va bytes
+      → record { refused = verdictNumber Granted; state = record { machine = p .machine; memory = m } } ≡ writeCall p va bytes
+  unfolding writeCall
+  write-done e m h = simp (e, h)
+
+-- ---- page view
+module _ (p : State) (x : VirtualPage) where
+  pub view-number : (v : Verdict) → v ≡ viewVerdict p x → verdictNumber v ≡ viewCall p x .refused
+  unfolding viewCall
+  view-number Granted e = simp (← e)
+  view-number (Refused r) e = simp (← e)
+
+  pub view-refused : (r : Refusal) → viewVerdict p x ≡ Refused r → [] ≡ viewCall p x .part
+  unfolding viewCall
+  view-refused r e = simp e
+
+  pub view-done : viewVerdict p x ≡ Granted → (b : List ℕ) → b ≡ pageBytes (p .machine .shape) (p .memory) x → b ≡ viewCall p x .part
+  unfolding viewCall
+  view-done e b h = h ∙ simp e
+
+-- the part of the memory where the page is
+module _ (s : Shape) (main swap : List ℕ) (lent : Lent s main (length swap)) (x : VirtualPage) (inside : x .0 < s .ptl) where
+  module _ (p : MainPage) (hp : homeOf s main x ≡ Main p) (i : ℕ) (hi : i ≡ mainAt p (offset 0)) where
+    here : InMain s main x p
+    here = in-main s main x p hp
+
+    pub main-within : i + 4096 ≤ length main
+    main-within =
+        omega (arith, ap (λ (q : MainPage). q .0) (here .at), lent .safe .framed x inside (here .here) .1, lent .safe .fit .frames-in, lent .safe .fit .main-long)
+
+    pub main-part : take (i + 4096 - i) (drop i main) ≡ pageBytes s (memory main swap) x
+    unfolding pageBytes
+    main-part =
+        let e : i ≡ 4096 * p .0 = omega arith in
+        rw e (part-page main (p .0) ∙ ap (λ (q : MainPage). page main (q .0)) (here .at) ∙ simp (here .here))
+
+  module _ (p : SwapPage) (hp : homeOf s main x ≡ Swap p) (i : ℕ) (hi : i ≡ swapAt p (offset 0)) where
+    away : InSwap s main x p
+    away = in-swap s main x p hp
+
+    pub swap-within : i + 4096 ≤ length swap
+    swap-within = omega (arith, ap (λ (q : SwapPage). q .0) (away .at), lent .whole)
+
+    pub swap-part : take (i + 4096 - i) (drop i swap) ≡ pageBytes s (memory main swap) x
+    unfolding pageBytes
+    swap-part =
+        let e : i ≡ 4096 * p .0 = omega arith in
+        rw e (part-page swap (p .0) ∙ ap (λ (q : SwapPage). page swap (q .0)) (away .at) ∙ simp (away .away))
+
+-- ---- reply
+module _ (m : Machine) (i v : ℕ) where
+  pub reply-low : i < 1 → record { refused = verdictNumber (Refused TooMuch); machine = m } ≡ replyCall m i v
+  unfolding replyCall replyVerdict
+  reply-low h = simp (lt-leb _ _ h)
+
+  pub reply-high : 1 ≤ i → 31 < i → record { refused = verdictNumber (Refused TooMuch); machine = m } ≡ replyCall m i v
+  unfolding replyCall replyVerdict
+  reply-high h k = simp (le-leb _ _ h, lt-leb _ _ k)
+
+  pub reply-done : 1 ≤ i → i ≤ 31
+      → record { refused = verdictNumber Granted; machine = record { shape = m .shape; book = m .book; gpr = set (m .gpr) i v; pcs = m .pcs } } ≡ replyCall m i v
+  unfolding replyCall replyVerdict
+  reply-done h k = simp (le-leb _ _ h, le-leb _ _ k)

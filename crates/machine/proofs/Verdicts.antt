@@ -1,0 +1,128 @@
+-- The refusals of a call in their order, and what a machine that is not refused has.
+use mathlib.Core.Path.{_≡_, refl, sym, ap, _∙_}
+use mathlib.Core.Bool.{Bool, true, false, not}
+use mathlib.Core.List.{List}
+use Prim.Native.Nat.{ℕ, _≤_, _<_}
+use native.Mathlib.Omega.{arith}
+use lib.Dec.{leb}
+use lib.ListN.{length}
+use borrow.Author.Tests.{leb-true, ltb-true, le-leb, lt-leb, not-true, not-false}
+use Rattle.model.specs.State.{State, state}
+use Rattle.model.specs.Sound.{fits, sound}
+use Rattle.model.specs.Calls.{unless, machineVerdict, permitted, hostVerdict, viewable, viewVerdict}
+use Rattle.model.specs.declared.Shape.{Shape}
+use Rattle.model.specs.declared.Machine.{Machine}
+use Rattle.model.specs.declared.VirtualPage.{VirtualPage}
+use Rattle.model.specs.declared.Refusal.{Refusal}
+use Rattle.model.specs.declared.Refusal.the-variants.{Bound, Unsound, Rights, TooMuch}
+use Rattle.model.specs.declared.Verdict.{Verdict}
+use Rattle.model.specs.declared.Verdict.the-variants.{Granted, Refused}
+use Rattle.laws.specs.Good.{Fit, Good}
+use Rattle.laws.proofs.Choice.{and-left}
+use Rattle.laws.proofs.Sound.{fit-of, good-of}
+use Rattle.laws.proofs.Seated.{safe}
+use Rattle.paging.specs.Ready.{memory}
+use Rattle.machine.specs.Home.{Lent, Covered}
+use Rattle.machine.specs.Promises.{transferVerdict}
+use Rattle.machine.proofs.Rights.{covered}
+
+-- ---- what is granted passed its tests
+pub unless-granted : (t : Bool) (r : Refusal) (after : Verdict) → unless t r after ≡ Granted → (t ≡ true) × (after ≡ Granted)
+unless-granted true r after e = (refl, e)
+unless-granted false r after e = let z : _≡_ {A = ℕ} 0 1 = cc in absurd (omega arith)
+
+pub record Passed (p : State) : Type 0 where
+  pub fitting : fits (p .machine .shape) (p .memory) ≡ true
+  pub sounding : sound (p .machine) (p .memory .main) ≡ true
+
+pub passed : (p : State) (after : Verdict) → machineVerdict p after ≡ Granted → Passed p × (after ≡ Granted)
+unfolding machineVerdict
+passed p after e =
+    let a = unless-granted (fits (p .machine .shape) (p .memory)) Bound _ e in
+    let b = unless-granted (sound (p .machine) (p .memory .main)) Unsound after (a .1) in
+    (record { fitting = a .0; sounding = b .0 }, b .1)
+
+-- ---- refusals 1 and 2
+module _ (m : Machine) (main swap : List ℕ) (f : Bool) (e : f ≡ fits (m .shape) (memory main swap)) where
+  pub bound : not f ≡ true → Refused Bound ≡ machineVerdict (state m main swap) Granted
+  unfolding machineVerdict
+  bound n = simp (← e, not-true f n)
+
+  module _ (y : not f ≡ false) where
+    pub fitted : Fit (m .shape) (length main)
+    fitted = fit-of (m .shape) (memory main swap) (sym e ∙ not-false f y) .0
+
+    module _ (q : Bool) (g : q ≡ sound m main) where
+      pub unsound : not q ≡ true → Refused Unsound ≡ machineVerdict (state m main swap) Granted
+      unfolding machineVerdict
+      unsound n = simp (← e, ← g, not-false f y, not-true q n)
+
+      pub granted : not q ≡ false → Granted ≡ machineVerdict (state m main swap) Granted
+      unfolding machineVerdict
+      granted n = simp (← e, ← g, not-false f y, not-false q n)
+
+-- ---- the tests after them, by the verdict v on the machine
+module _ (p : State) (v : Verdict) (e : v ≡ machineVerdict p Granted) where
+  pub refused-first : (r : Refusal) → v ≡ Refused r → (after : Verdict) → Refused r ≡ machineVerdict p after
+  unfolding machineVerdict
+  refused-first r h after = pick (fits (p .machine .shape) (p .memory)) (sound (p .machine) (p .memory .main)) (sym h ∙ e)
+    where
+      pick : (a b : Bool) → Refused r ≡ unless a Bound (unless b Unsound Granted) → Refused r ≡ unless a Bound (unless b Unsound after)
+      pick false b q = q
+      pick true false q = q
+      pick true true q = let z : _≡_ {A = ℕ} 0 1 = cc in absurd (omega arith)
+
+  module _ (h : v ≡ Granted) where
+    pub granted-first : (after : Verdict) → after ≡ machineVerdict p after
+    unfolding machineVerdict
+    granted-first after = let k : Passed p = passed p Granted (sym e ∙ h) .0 in simp (k .fitting, k .sounding)
+
+    pub passed-fit : Fit (p .machine .shape) (length (p .memory .main))
+    passed-fit = fit-of (p .machine .shape) (p .memory) (passed p Granted (sym e ∙ h) .0 .fitting) .0
+
+-- ---- refusals 4 and 3
+module _ (writing : Bool) (s : Shape) (main : List ℕ) (va n : ℕ) where
+  pub too-much : 256 < n → Refused TooMuch ≡ transferVerdict writing s main va n
+  too-much h = simp (lt-leb _ _ h)
+
+  module _ (h : n ≤ 256) (r : Bool) (e : r ≡ permitted writing s main va n) where
+    pub rights-lack : not r ≡ true → Refused Rights ≡ transferVerdict writing s main va n
+    rights-lack k = simp (le-leb _ _ h, ← e, not-true r k)
+
+    pub all-right : not r ≡ false → Granted ≡ transferVerdict writing s main va n
+    all-right k = simp (le-leb _ _ h, ← e, not-false r k)
+
+-- ---- refusal 3 of a view
+module _ (p : State) (v : Verdict) (e : v ≡ machineVerdict p Granted) (h : v ≡ Granted) (x : VirtualPage)
+    (r : Bool) (g : r ≡ viewable (p .machine .shape) (p .memory .main) x) where
+  pub not-readable : not r ≡ true → Refused Rights ≡ viewVerdict p x
+  unfolding viewVerdict
+  not-readable n =
+      let z : Refused Rights ≡ unless (viewable (p .machine .shape) (p .memory .main) x) Rights Granted = simp (← g, not-true r n) in
+      z ∙ granted-first p v e h _
+
+  pub is-readable : not r ≡ false → Granted ≡ viewVerdict p x
+  unfolding viewVerdict
+  is-readable n =
+      let z : Granted ≡ unless (viewable (p .machine .shape) (p .memory .main) x) Rights Granted = simp (← g, not-false r n) in
+      z ∙ granted-first p v e h _
+
+-- ---- what a call that is not refused may lean on
+module _ (p : State) (array : length (p .machine .book .held) ≡ 32) where
+  lent-of : Passed p → Lent (p .machine .shape) (p .memory .main) (length (p .memory .swap))
+  lent-of k = let g : Good p = good-of p array (k .fitting) (k .sounding) in record { safe = safe p g; whole = g .whole }
+
+  pub host-leans : (writing : Bool) (va n : ℕ) → hostVerdict writing p va n ≡ Granted
+      → Lent (p .machine .shape) (p .memory .main) (length (p .memory .swap)) × Covered (p .machine .shape) va n
+  unfolding hostVerdict
+  host-leans writing va n e =
+      let a = passed p _ e in
+      let b = unless-granted (leb n 256) TooMuch _ (a .1) in
+      (lent-of (a .0), covered (p .machine .shape) (p .memory .main) writing va n (leb-true _ _ (b .0)) (unless-granted _ Rights Granted (b .1) .0))
+
+  pub view-leans : (x : VirtualPage) → viewVerdict p x ≡ Granted
+      → Lent (p .machine .shape) (p .memory .main) (length (p .memory .swap)) × (x .0 < p .machine .shape .ptl)
+  unfolding viewVerdict viewable
+  view-leans x e =
+      let a = passed p _ e in
+      (lent-of (a .0), ltb-true _ _ (and-left _ _ (unless-granted _ Rights Granted (a .1) .0)))

@@ -1,0 +1,141 @@
+// The calls that a host makes on a machine: run, host read, host write, page view and reply. They ask nothing of their caller: each
+// tests what it is handed and names its complete outcome.
+mod home;
+mod transfer;
+pub mod verdict;
+mod view;
+
+use model::Handed;
+use model::Machine;
+use model::Refusal;
+use model::RunAnswer;
+use model::RunResult;
+use model::Verdict;
+use model::VirtualPage;
+ghost use mathlib.Core.Path.{_≡_};
+ghost use Prim.Native.Nat.{_≤_};
+ghost use Rattle.model.specs.State.{state};
+ghost use Rattle.model.specs.Run.{run, instruction, uncounted};
+ghost use Rattle.laws.specs.Good.{Good};
+ghost use Rattle.model.specs.Answers.{verdictNumber};
+ghost use Rattle.model.specs.Calls as calls;
+
+// "Run returns the stop, a detail, instructions finished, pages loaded."
+pub fn run(m: Machine, main: &mut [u8], swap: &mut [u8], limit: u32) -> RunResult
+    ensures { λ r. ⌜ calls.runOutcome (r .answer) (state (r .machine) (now (main .exit)) (now (swap .exit)))
+        ≡ calls.runCall (state m (now (main .entry)) (now (swap .entry))) limit ⌝ }
+{
+    match verdict::run_verdict(m, main, swap, limit) {
+        Verdict::Refused(r) => RunResult {
+            machine: m,
+            answer: RunAnswer::NotRun(r),
+        },
+        Verdict::Granted => run_sound(m, main, swap, limit),
+    }
+}
+
+// The run of a machine that is not refused: the registers are lent to the engine from an array of their own.
+fn run_sound(m: Machine, main: &mut [u8], swap: &mut [u8], limit: u32) -> RunResult
+    requires { ⌜ Good (state m (now main) (now swap)) × (limit ≤ 1000000) ⌝ }
+    ensures { λ r. ⌜ calls.runOutcome (r .answer) (state (r .machine) (now (main .exit)) (now (swap .exit)))
+        ≡ calls.reported (run instruction limit (uncounted (state m (now (main .entry)) (now (swap .entry))))) ⌝ }
+{
+    let s = m.shape;
+    let b = m.book;
+    let p = m.pcs;
+    let mut g = m.gpr;
+    let e = engine::go(s, b, &mut g, p, main, swap, limit);
+    let book = e.book;
+    let pcs = e.pcs;
+    let stop = e.stop;
+    RunResult {
+        machine: Machine {
+            shape: s,
+            book: book,
+            gpr: g,
+            pcs: pcs,
+        },
+        answer: RunAnswer::Ran {
+            stop: stop,
+            finished: e.finished,
+            loads: e.loads,
+        },
+    }
+}
+
+// "Host read fills a lent buffer".
+pub fn host_read(m: Machine, main: &[u8], swap: &[u8], va: u32, into: &mut [u8]) -> Verdict
+    ensures { λ r. ⌜ record { refused = verdictNumber r; buffer = now (into .exit) } ≡ calls.readCall (state m (now (main .entry)) (now (swap .entry))) va (now (into .entry)) ⌝ }
+{
+    let s = m.shape;
+    match verdict::host_verdict(m, main, swap, false, va, into.len()) {
+        Verdict::Refused(r) => Verdict::Refused(r),
+        Verdict::Granted => {
+            transfer::read_bytes(s, main, swap, va, into);
+            Verdict::Granted
+        }
+    }
+}
+
+// "host write takes one".
+pub fn host_write(m: Machine, main: &mut [u8], swap: &mut [u8], va: u32, from: &[u8]) -> Handed
+    ensures { λ r. ⌜ record { refused = verdictNumber (r .verdict); state = state (r .machine) (now (main .exit)) (now (swap .exit)) } ≡ calls.writeCall (state m (now (main .entry)) (now (swap .entry))) va (now (from .entry)) ⌝ }
+{
+    let s = m.shape;
+    match verdict::host_verdict(m, main, swap, true, va, from.len()) {
+        Verdict::Refused(r) => Handed {
+            machine: m,
+            verdict: Verdict::Refused(r),
+        },
+        Verdict::Granted => {
+            transfer::write_bytes(s, main, swap, va, from);
+            Handed {
+                machine: m,
+                verdict: Verdict::Granted,
+            }
+        }
+    }
+}
+
+// The page view in two calls: what it answers, and the part that it hands back.
+pub fn view_answer<'a>(m: Machine, main: &'a [u8], swap: &'a [u8], page: VirtualPage) -> Verdict
+    ensures { λ r. ⌜ verdictNumber r ≡ calls.viewCall (state m (now (main .entry)) (now (swap .entry))) page .refused ⌝ }
+{
+    verdict::view_verdict(m, main, swap, page)
+}
+
+// "hands back the 4096 bytes of a readable page", "an empty part" where it is refused.
+pub fn page_view<'a>(m: Machine, main: &'a [u8], swap: &'a [u8], page: VirtualPage) -> &'a [u8]
+    ensures { λ r. ⌜ now r ≡ calls.viewCall (state m (now (main .entry)) (now (swap .entry))) page .part ⌝ }
+{
+    let s = m.shape;
+    match verdict::view_verdict(m, main, swap, page) {
+        Verdict::Refused(_) => &main[..0],
+        Verdict::Granted => view::page_part(s, main, swap, page),
+    }
+}
+
+// "Reply sets one of GPR 1 to 31."
+pub fn reply(m: Machine, register: u32, value: u32) -> Handed
+    ensures { λ r. ⌜ record { refused = verdictNumber (r .verdict); machine = r .machine } ≡ calls.replyCall m register value ⌝ }
+{
+    if register < 1 {
+        return Handed {
+            machine: m,
+            verdict: Verdict::Refused(Refusal::TooMuch),
+        };
+    }
+    if register > 31 {
+        return Handed {
+            machine: m,
+            verdict: Verdict::Refused(Refusal::TooMuch),
+        };
+    }
+    let mut replied = m;
+    let i = register as usize;
+    replied.gpr[i] = value;
+    Handed {
+        machine: replied,
+        verdict: Verdict::Granted,
+    }
+}

@@ -1,8 +1,8 @@
 -- Bytes of the flat memory: where one is, and what a transfer leaves after i of them.
-use mathlib.Core.Path.{_≡_, refl, sym, ap, ap₂, _∙_}
+use mathlib.Core.Path.{_≡_, refl, sym, ap, _∙_}
 use mathlib.Core.Bool.{Bool, true, false}
-use mathlib.Core.List.{List, [], _∷_, _++_}
-use Prim.Native.Nat.{ℕ, suc, _+_, _*_, _%_, _≤_, _<_, _^_}
+use mathlib.Core.List.{List, _++_}
+use Prim.Native.Nat.{ℕ, _+_, _*_, _%_, _≤_, _<_}
 use native.Mathlib.Nat.{add-zero, add-suc}
 use native.Mathlib.Numerals.{add-one}
 use native.Mathlib.Omega.{arith}
@@ -18,15 +18,15 @@ use Rattle.model.specs.declared.Shape.{Shape}
 use Rattle.model.specs.declared.VirtualPage.{VirtualPage}
 use Rattle.model.specs.declared.MainPage.{MainPage}
 use Rattle.model.specs.declared.SwapPage.{SwapPage}
-use Rattle.laws.specs.Good.{Fit, Safe, SwapLong}
 use Rattle.laws.proofs.Choice.{length-below, getD-below}
 use Rattle.laws.proofs.Bytes.{number-same}
+use Rattle.laws.proofs.Attempt.{clash}
 use Rattle.laws.proofs.Table.{flat-here, flat-away}
 use Rattle.words.proofs.Copies.{copied-step}
 use Rattle.paging.specs.Ready.{memory}
 use Rattle.machine.specs.declared.home.Home.{Home}
 use Rattle.machine.specs.declared.home.Home.the-variants.{Main, Swap}
-use Rattle.machine.specs.Home.{homeOf, Lent, Covered}
+use Rattle.machine.specs.Home.{homeOf, Lent}
 
 -- ---- where a page is
 module _ (s : Shape) (main : List ℕ) (x : VirtualPage) (e : ℕ) (he : e ≡ entry s main x) where
@@ -47,29 +47,29 @@ pub record InSwap (s : Shape) (main : List ℕ) (x : VirtualPage) (p : SwapPage)
   pub away : valid (entry s main x) ≡ false
   pub at : p ≡ swapOf s x
 
-module _ (s : Shape) (main : List ℕ) (x : VirtualPage) where
-  pub in-main : (p : MainPage) → homeOf s main x ≡ Main p → InMain s main x p
+module _ (s : Shape) (main : List ℕ) (x : VirtualPage) (h : Home) (e : h ≡ homeOf s main x) where
+  pub in-main : (p : MainPage) → h ≡ Main p → InMain s main x p
   unfolding homeOf
-  in-main p e = pick (valid (entry s main x)) refl
+  in-main p q = pick (valid (entry s main x)) refl
     where
       pick : (b : Bool) → valid (entry s main x) ≡ b → InMain s main x p
-      pick true v = let z : Main (ppx (entry s main x)) ≡ Main p = simp v at e in record { here = v; at = cc }
-      pick false v = let z : Swap (swapOf s x) ≡ Main p = simp v at e in let w : _≡_ {A = ℕ} 0 1 = cc in absurd (omega arith)
+      pick true v = let z : h ≡ Main (ppx (entry s main x)) = simp v at e in record { here = v; at = cc }
+      pick false v = let z : h ≡ Swap (swapOf s x) = simp v at e in clash (cc)
 
-  pub in-swap : (p : SwapPage) → homeOf s main x ≡ Swap p → InSwap s main x p
+  pub in-swap : (p : SwapPage) → h ≡ Swap p → InSwap s main x p
   unfolding homeOf
-  in-swap p e = pick (valid (entry s main x)) refl
+  in-swap p q = pick (valid (entry s main x)) refl
     where
       pick : (b : Bool) → valid (entry s main x) ≡ b → InSwap s main x p
-      pick false v = let z : Swap (swapOf s x) ≡ Swap p = simp v at e in record { away = v; at = cc }
-      pick true v = let z : Main (ppx (entry s main x)) ≡ Swap p = simp v at e in let w : _≡_ {A = ℕ} 0 1 = cc in absurd (omega arith)
+      pick false v = let z : h ≡ Swap (swapOf s x) = simp v at e in record { away = v; at = cc }
+      pick true v = let z : h ≡ Main (ppx (entry s main x)) = simp v at e in clash (cc)
 
 -- ---- one byte, by where its page is
 module _ (s : Shape) (main swap : List ℕ) (lent : Lent s main (length swap)) (va : ℕ) (x : VirtualPage) (hx : x ≡ pageOf va)
-    (inside : pageOf va .0 < s .ptl) where
-  module _ (p : MainPage) (hp : homeOf s main x ≡ Main p) (i : ℕ) (hi : i ≡ mainAt p (offset va)) where
+    (inside : pageOf va .0 < s .ptl) (h : Home) (e : h ≡ homeOf s main x) where
+  module _ (p : MainPage) (hp : h ≡ Main p) (i : ℕ) (hi : i ≡ mainAt p (offset va)) where
     here : InMain s main (pageOf va) p
-    here = rw hx at (in-main s main x p hp)
+    here = rw hx at (in-main s main x h e p hp)
 
     there : i ≡ mainAt (ppx (entry s main (pageOf va))) (offset va)
     there = hi ∙ ap (λ (q : MainPage). mainAt q (offset va)) (here .at)
@@ -85,9 +85,9 @@ module _ (s : Shape) (main swap : List ℕ) (lent : Lent s main (length swap)) (
     unfolding poke
     main-put v = simp (there, here .here)
 
-  module _ (p : SwapPage) (hp : homeOf s main x ≡ Swap p) (i : ℕ) (hi : i ≡ swapAt p (offset va)) where
+  module _ (p : SwapPage) (hp : h ≡ Swap p) (i : ℕ) (hi : i ≡ swapAt p (offset va)) where
     away : InSwap s main (pageOf va) p
-    away = rw hx at (in-swap s main x p hp)
+    away = rw hx at (in-swap s main x h e p hp)
 
     beyond : i ≡ swapAt (swapOf s (pageOf va)) (offset va)
     beyond = hi ∙ ap (λ (q : SwapPage). swapAt q (offset va)) (away .at)

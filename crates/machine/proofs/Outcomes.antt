@@ -1,6 +1,6 @@
 -- The outcome of each call, by its verdict.
-use mathlib.Core.Path.{_≡_, sym, ap, _∙_}
-use mathlib.Core.Bool.{Bool, true, false, _&&_}
+use mathlib.Core.Path.{_≡_, refl, ap, _∙_}
+use mathlib.Core.Bool.{true, false}
 use mathlib.Core.List.{List, []}
 use Prim.Native.Nat.{ℕ, _+_, _-_, _*_, _≤_, _<_}
 use native.Mathlib.Omega.{arith}
@@ -10,7 +10,7 @@ use Rattle.model.specs.Bytes.{page}
 use Rattle.model.specs.Pages.{mainAt, swapAt, offset}
 use Rattle.model.specs.State.{State, Memory, state}
 use Rattle.model.specs.Answers.{verdictNumber}
-use Rattle.model.specs.Calls.{ReadOutcome, StateOutcome, ReplyOutcome, hostVerdict, bytesFrom, readCall, bytesTo, writeCall, viewVerdict, pageBytes, viewCall, replyVerdict, replyCall}
+use Rattle.model.specs.Calls.{hostVerdict, bytesFrom, readCall, bytesTo, writeCall, viewVerdict, pageBytes, viewBy, viewCall, replyVerdict, replyCall}
 use Rattle.model.specs.declared.Shape.{Shape}
 use Rattle.model.specs.declared.Machine.{Machine}
 use Rattle.model.specs.declared.VirtualPage.{VirtualPage}
@@ -22,54 +22,59 @@ use Rattle.model.specs.declared.Verdict.{Verdict}
 use Rattle.model.specs.declared.Verdict.the-variants.{Granted, Refused}
 use Rattle.paging.specs.Ready.{memory}
 use Rattle.words.proofs.Copies.{part-page}
+use Rattle.machine.specs.declared.home.Home.{Home}
 use Rattle.machine.specs.declared.home.Home.the-variants.{Main, Swap}
 use Rattle.machine.specs.Home.{homeOf, Lent}
 use Rattle.machine.proofs.Bytes.{InMain, InSwap, in-main, in-swap}
 
 -- ---- host read
-module _ (p : State) (va : ℕ) (buffer : List ℕ) where
-  pub read-refused : (r : Refusal) → hostVerdict false p va (length buffer) ≡ Refused r
+module _ (p : State) (va : ℕ) (buffer : List ℕ) (v : Verdict) (e : v ≡ hostVerdict false p va (length buffer)) where
+  pub read-refused : (r : Refusal) → v ≡ Refused r
       → record { refused = verdictNumber (Refused r); buffer = buffer } ≡ readCall p va buffer
   unfolding readCall
-  read-refused r e = simp e
+  read-refused r h = simp (← e, h)
 
-  pub read-done : hostVerdict false p va (length buffer) ≡ Granted → (b : List ℕ) → b ≡ bytesFrom (p .machine .shape) (p .memory) va (length buffer)
+  pub read-done : v ≡ Granted → (b : List ℕ) → b ≡ bytesFrom (p .machine .shape) (p .memory) va (length buffer)
       → record { refused = verdictNumber Granted; buffer = b } ≡ readCall p va buffer
   unfolding readCall
-  read-done e b h = simp (e, h)
+  read-done h b q = simp (← e, h, q)
 
 -- ---- host write
-module _ (p : State) (va : ℕ) (bytes : List ℕ) where
-  pub write-refused : (r : Refusal) → hostVerdict true p va (length bytes) ≡ Refused r
+module _ (p : State) (va : ℕ) (bytes : List ℕ) (v : Verdict) (e : v ≡ hostVerdict true p va (length bytes)) where
+  pub write-refused : (r : Refusal) → v ≡ Refused r
       → record { refused = verdictNumber (Refused r); state = p } ≡ writeCall p va bytes
   unfolding writeCall
-  write-refused r e = simp e
+  write-refused r h = simp (← e, h)
 
-  pub write-done : hostVerdict true p va (length bytes) ≡ Granted → (m : Memory) → m ≡ bytesTo (p .machine .shape) (p .memory) va bytes
+  pub write-done : v ≡ Granted → (m : Memory) → m ≡ bytesTo (p .machine .shape) (p .memory) va bytes
       → record { refused = verdictNumber Granted; state = record { machine = p .machine; memory = m } } ≡ writeCall p va bytes
   unfolding writeCall
-  write-done e m h = simp (e, h)
+  write-done h m q = simp (← e, h, q)
 
 -- ---- page view
-module _ (p : State) (x : VirtualPage) where
-  pub view-number : (v : Verdict) → v ≡ viewVerdict p x → verdictNumber v ≡ viewCall p x .refused
+module _ (p : State) (x : VirtualPage) (v : Verdict) (e : v ≡ viewVerdict p x) where
+  pub view-number : verdictNumber v ≡ viewCall p x .refused
   unfolding viewCall
-  view-number Granted e = simp (← e)
-  view-number (Refused r) e = simp (← e)
+  view-number = simp (← e) (number v)
+    where
+      number : (w : Verdict) → verdictNumber w ≡ viewBy w p x .refused
+      number Granted = refl
+      number (Refused r) = refl
 
-  pub view-refused : (r : Refusal) → viewVerdict p x ≡ Refused r → [] ≡ viewCall p x .part
+  pub view-refused : (r : Refusal) → v ≡ Refused r → [] ≡ viewCall p x .part
   unfolding viewCall
-  view-refused r e = simp e
+  view-refused r h = simp (← e, h)
 
-  pub view-done : viewVerdict p x ≡ Granted → (b : List ℕ) → b ≡ pageBytes (p .machine .shape) (p .memory) x → b ≡ viewCall p x .part
+  pub view-done : v ≡ Granted → (b : List ℕ) → b ≡ pageBytes (p .machine .shape) (p .memory) x → b ≡ viewCall p x .part
   unfolding viewCall
-  view-done e b h = h ∙ simp e
+  view-done h b q = simp (← e, h, q)
 
 -- the part of the memory where the page is
-module _ (s : Shape) (main swap : List ℕ) (lent : Lent s main (length swap)) (x : VirtualPage) (inside : x .0 < s .ptl) where
-  module _ (p : MainPage) (hp : homeOf s main x ≡ Main p) (i : ℕ) (hi : i ≡ mainAt p (offset 0)) where
+module _ (s : Shape) (main swap : List ℕ) (lent : Lent s main (length swap)) (x : VirtualPage) (inside : x .0 < s .ptl)
+    (h : Home) (e : h ≡ homeOf s main x) where
+  module _ (p : MainPage) (hp : h ≡ Main p) (i : ℕ) (hi : i ≡ mainAt p (offset 0)) where
     here : InMain s main x p
-    here = in-main s main x p hp
+    here = in-main s main x h e p hp
 
     pub main-within : i + 4096 ≤ length main
     main-within =
@@ -78,12 +83,12 @@ module _ (s : Shape) (main swap : List ℕ) (lent : Lent s main (length swap)) (
     pub main-part : take (i + 4096 - i) (drop i main) ≡ pageBytes s (memory main swap) x
     unfolding pageBytes
     main-part =
-        let e : i ≡ 4096 * p .0 = omega arith in
-        rw e (part-page main (p .0) ∙ ap (λ (q : MainPage). page main (q .0)) (here .at) ∙ simp (here .here))
+        let k : i ≡ 4096 * p .0 = omega arith in
+        rw k (part-page main (p .0) ∙ ap (λ (q : MainPage). page main (q .0)) (here .at) ∙ simp (here .here))
 
-  module _ (p : SwapPage) (hp : homeOf s main x ≡ Swap p) (i : ℕ) (hi : i ≡ swapAt p (offset 0)) where
+  module _ (p : SwapPage) (hp : h ≡ Swap p) (i : ℕ) (hi : i ≡ swapAt p (offset 0)) where
     away : InSwap s main x p
-    away = in-swap s main x p hp
+    away = in-swap s main x h e p hp
 
     pub swap-within : i + 4096 ≤ length swap
     swap-within = omega (arith, ap (λ (q : SwapPage). q .0) (away .at), lent .whole)
@@ -91,8 +96,8 @@ module _ (s : Shape) (main swap : List ℕ) (lent : Lent s main (length swap)) (
     pub swap-part : take (i + 4096 - i) (drop i swap) ≡ pageBytes s (memory main swap) x
     unfolding pageBytes
     swap-part =
-        let e : i ≡ 4096 * p .0 = omega arith in
-        rw e (part-page swap (p .0) ∙ ap (λ (q : SwapPage). page swap (q .0)) (away .at) ∙ simp (away .away))
+        let k : i ≡ 4096 * p .0 = omega arith in
+        rw k (part-page swap (p .0) ∙ ap (λ (q : SwapPage). page swap (q .0)) (away .at) ∙ simp (away .away))
 
 -- ---- reply
 module _ (m : Machine) (i v : ℕ) where

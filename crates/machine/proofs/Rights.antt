@@ -1,11 +1,9 @@
 -- The right to a page: byte by byte for a transfer, and once for a view.
 use mathlib.Core.Path.{_≡_, refl, sym, ap, _∙_}
-use mathlib.Core.Bool.{Bool, true, false, false≢true}
+use mathlib.Core.Bool.{Bool, true, false}
 use mathlib.Core.List.{List}
 use Prim.Native.Nat.{ℕ, zero, suc, _+_, _*_, _≤_, _<_, _^_}
 use native.Mathlib.Omega.{arith}
-use native.Mathlib.Decide.{decLt}
-use lib.ListN.{length}
 use borrow.Author.Tests.{lt-ltb, le-ltb}
 use Rattle.model.specs.Choice.{everyBelow}
 use Rattle.model.specs.Pages.{pageOf}
@@ -14,20 +12,11 @@ use Rattle.model.specs.Translate.{has, translate}
 use Rattle.model.specs.Calls.{legal, permitted, viewable}
 use Rattle.model.specs.declared.Shape.{Shape}
 use Rattle.model.specs.declared.VirtualPage.{VirtualPage}
-use Rattle.laws.proofs.Choice.{every-at}
 use Rattle.laws.proofs.Seated.{same-page}
-use Rattle.laws.proofs.Access.{translate-outside, translate-denied, translate-fault, translate-at}
-use Rattle.machine.specs.Home.{Covered}
+use Rattle.laws.proofs.Access.{translate-denied, translate-fault, translate-at}
+use Rattle.laws.proofs.Host.{permitted-inside}
 
 module _ (s : Shape) (main : List ℕ) (writing : Bool) where
-  -- a legal access is in the table
-  legal-inside : (va : ℕ) → legal (translate s main writing va) ≡ true → pageOf va .0 < s .ptl
-  legal-inside va e = pick (decLt (pageOf va .0) (s .ptl))
-    where
-      pick : Dec (pageOf va .0 < s .ptl) → pageOf va .0 < s .ptl
-      pick (yes h) = h
-      pick (no h) = absurd (false≢true (sym (ap legal (translate-outside s main writing va (omega (arith, h)))) ∙ e))
-
   -- in the table the right decides
   legal-has : (va : ℕ) → pageOf va .0 < s .ptl → legal (translate s main writing va) ≡ has writing (entry s main (pageOf va))
   legal-has va h = pick (has writing (entry s main (pageOf va))) refl (valid (entry s main (pageOf va))) refl
@@ -40,12 +29,9 @@ module _ (s : Shape) (main : List ℕ) (writing : Bool) where
 
   -- after i permitted bytes the next address does not go round
   pub next-fits : (va i : ℕ) → va < 2 ^ 32 → s .ptl ≤ 1024 → everyBelow i (λ k. legal (translate s main writing (va + k))) ≡ true → va + i < 2 ^ 32
-  next-fits va zero h p e = omega arith
-  next-fits va (suc k) h p e = omega (arith, legal-inside (va + k) (every-at (suc k) _ e k (omega arith)))
-
-  pub covered : (va n : ℕ) → n ≤ 256 → permitted writing s main va n ≡ true → Covered s va n
   unfolding permitted
-  covered va n h e = record { few = h; inside = λ i q. legal-inside (va + i) (every-at n _ e i q) }
+  next-fits va zero h p e = omega arith
+  next-fits va (suc k) h p e = omega (arith, permitted-inside writing s main va (suc k) e k (omega arith))
 
 -- ---- a view
 module _ (s : Shape) (main : List ℕ) (x : VirtualPage) where

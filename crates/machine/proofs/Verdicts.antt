@@ -1,12 +1,10 @@
 -- The refusals of a call in their order, and what a machine that is not refused has.
-use mathlib.Core.Path.{_≡_, refl, sym, ap, _∙_}
+use mathlib.Core.Path.{_≡_, refl, sym, _∙_}
 use mathlib.Core.Bool.{Bool, true, false, not}
 use mathlib.Core.List.{List}
 use Prim.Native.Nat.{ℕ, _≤_, _<_}
-use native.Mathlib.Omega.{arith}
-use lib.Dec.{leb}
 use lib.ListN.{length}
-use borrow.Author.Tests.{leb-true, ltb-true, le-leb, lt-leb, not-true, not-false}
+use borrow.Author.Tests.{le-leb, lt-leb, not-true, not-false}
 use Rattle.model.specs.State.{State, state}
 use Rattle.model.specs.Sound.{fits, sound}
 use Rattle.model.specs.Calls.{unless, machineVerdict, permitted, hostVerdict, viewable, viewVerdict}
@@ -18,18 +16,19 @@ use Rattle.model.specs.declared.Refusal.the-variants.{Bound, Unsound, Rights, T
 use Rattle.model.specs.declared.Verdict.{Verdict}
 use Rattle.model.specs.declared.Verdict.the-variants.{Granted, Refused}
 use Rattle.laws.specs.Good.{Fit, Good}
-use Rattle.laws.proofs.Choice.{and-left}
 use Rattle.laws.proofs.Sound.{fit-of, good-of}
 use Rattle.laws.proofs.Seated.{safe}
+use Rattle.laws.proofs.Attempt.{clash}
+use Rattle.laws.proofs.Host.{InTable}
+use Rattle.laws.proofs.Granted.{host-inside, view-inside}
 use Rattle.paging.specs.Ready.{memory}
-use Rattle.machine.specs.Home.{Lent, Covered}
+use Rattle.machine.specs.Home.{Lent}
 use Rattle.machine.specs.Promises.{transferVerdict}
-use Rattle.machine.proofs.Rights.{covered}
 
 -- ---- what is granted passed its tests
 pub unless-granted : (t : Bool) (r : Refusal) (after : Verdict) → unless t r after ≡ Granted → (t ≡ true) × (after ≡ Granted)
 unless-granted true r after e = (refl, e)
-unless-granted false r after e = let z : _≡_ {A = ℕ} 0 1 = cc in absurd (omega arith)
+unless-granted false r after e = clash (cc)
 
 pub record Passed (p : State) : Type 0 where
   pub fitting : fits (p .machine .shape) (p .memory) ≡ true
@@ -53,13 +52,13 @@ module _ (m : Machine) (main swap : List ℕ) (f : Bool) (e : f ≡ fits (m .sha
     fitted = fit-of (m .shape) (memory main swap) (sym e ∙ not-false f y) .0
 
     module _ (q : Bool) (g : q ≡ sound m main) where
-      pub unsound : not q ≡ true → Refused Unsound ≡ machineVerdict (state m main swap) Granted
+      pub unsound : q ≡ false → Refused Unsound ≡ machineVerdict (state m main swap) Granted
       unfolding machineVerdict
-      unsound n = simp (← e, ← g, not-false f y, not-true q n)
+      unsound n = simp (← e, ← g, not-false f y, n)
 
-      pub granted : not q ≡ false → Granted ≡ machineVerdict (state m main swap) Granted
+      pub granted : q ≡ true → Granted ≡ machineVerdict (state m main swap) Granted
       unfolding machineVerdict
-      granted n = simp (← e, ← g, not-false f y, not-false q n)
+      granted n = simp (← e, ← g, not-false f y, n)
 
 -- ---- the tests after them, by the verdict v on the machine
 module _ (p : State) (v : Verdict) (e : v ≡ machineVerdict p Granted) where
@@ -70,7 +69,7 @@ module _ (p : State) (v : Verdict) (e : v ≡ machineVerdict p Granted) where
       pick : (a b : Bool) → Refused r ≡ unless a Bound (unless b Unsound Granted) → Refused r ≡ unless a Bound (unless b Unsound after)
       pick false b q = q
       pick true false q = q
-      pick true true q = let z : _≡_ {A = ℕ} 0 1 = cc in absurd (omega arith)
+      pick true true q = clash (cc)
 
   module _ (h : v ≡ Granted) where
     pub granted-first : (after : Verdict) → after ≡ machineVerdict p after
@@ -112,17 +111,12 @@ module _ (p : State) (array : length (p .machine .book .held) ≡ 32) where
   lent-of : Passed p → Lent (p .machine .shape) (p .memory .main) (length (p .memory .swap))
   lent-of k = let g : Good p = good-of p array (k .fitting) (k .sounding) in record { safe = safe p g; whole = g .whole }
 
-  pub host-leans : (writing : Bool) (va n : ℕ) → hostVerdict writing p va n ≡ Granted
-      → Lent (p .machine .shape) (p .memory .main) (length (p .memory .swap)) × Covered (p .machine .shape) va n
+  pub host-leans : (writing : Bool) (va n : ℕ) (v : Verdict) → v ≡ hostVerdict writing p va n → v ≡ Granted
+      → Lent (p .machine .shape) (p .memory .main) (length (p .memory .swap)) × InTable (p .machine .shape) va n
   unfolding hostVerdict
-  host-leans writing va n e =
-      let a = passed p _ e in
-      let b = unless-granted (leb n 256) TooMuch _ (a .1) in
-      (lent-of (a .0), covered (p .machine .shape) (p .memory .main) writing va n (leb-true _ _ (b .0)) (unless-granted _ Rights Granted (b .1) .0))
+  host-leans writing va n v e h = (lent-of (passed p _ (sym e ∙ h) .0), host-inside writing p va n (sym e ∙ h))
 
-  pub view-leans : (x : VirtualPage) → viewVerdict p x ≡ Granted
+  pub view-leans : (x : VirtualPage) (v : Verdict) → v ≡ viewVerdict p x → v ≡ Granted
       → Lent (p .machine .shape) (p .memory .main) (length (p .memory .swap)) × (x .0 < p .machine .shape .ptl)
-  unfolding viewVerdict viewable
-  view-leans x e =
-      let a = passed p _ e in
-      (lent-of (a .0), ltb-true _ _ (and-left _ _ (unless-granted _ Rights Granted (a .1) .0)))
+  unfolding viewVerdict
+  view-leans x v e h = (lent-of (passed p _ (sym e ∙ h) .0), view-inside p x (sym e ∙ h))

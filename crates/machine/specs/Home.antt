@@ -1,10 +1,8 @@
 -- Where the bytes of a page are, "as its entry says", and what code that goes there needs of a machine.
-use mathlib.Core.Bool.{true, false}
 use mathlib.Core.List.{List}
-use Prim.Native.Nat.{ℕ, _+_, _<_, _≤_}
-use lib.ListN.{length}
+use Prim.Native.Nat.{ℕ}
 use Rattle.model.specs.Choice.{if_then_else_}
-use Rattle.model.specs.Pages.{pageOf, swapOf}
+use Rattle.model.specs.Pages.{swapOf}
 use Rattle.model.specs.Table.{entry, ppx, valid}
 use Rattle.model.specs.declared.Shape.{Shape}
 use Rattle.model.specs.declared.VirtualPage.{VirtualPage}
@@ -19,8 +17,3 @@ homeOf s main x = if valid (entry s main x) then Main (ppx (entry s main x)) els
 pub record Lent (s : Shape) (main : List ℕ) (swapLength : ℕ) : Type 0 where
   pub safe : Safe s main
   pub whole : SwapLong s swapLength
-
--- the n bytes from va on lie in pages of the table
-pub record Covered (s : Shape) (va n : ℕ) : Type 0 where
-  pub few : n ≤ 256
-  pub inside : (i : ℕ) → i < n → pageOf (va + i) .0 < s .ptl

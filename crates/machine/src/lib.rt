@@ -1,6 +1,7 @@
 // The calls that a host makes on a machine: run, host read, host write, page view and reply. They ask nothing of their caller: each
 // tests what it is handed and names its complete outcome.
 mod home;
+mod permission;
 mod transfer;
 pub mod verdict;
 mod view;

@@ -4,12 +4,13 @@ use model::Shape;
 ghost use mathlib.Core.Path.{_≡_};
 ghost use lib.ListN.{length};
 ghost use Rattle.model.specs.Calls as calls;
+ghost use Rattle.laws.proofs.Host.{InTable};
 ghost use Rattle.paging.specs.Ready.{memory};
-ghost use Rattle.machine.specs.Home.{Lent, Covered};
+ghost use Rattle.machine.specs.Home.{Lent};
 
 // "Host read fills a lent buffer".
 pub(crate) fn read_bytes(s: Shape, main: &[u8], swap: &[u8], va: u32, into: &mut [u8])
-    requires { ⌜ Lent s (now main) (length (now swap)) × Covered s va (length (now into)) ⌝ }
+    requires { ⌜ Lent s (now main) (length (now swap)) × InTable s va (length (now into)) ⌝ }
     ensures { λ _. ⌜ now (into .exit) ≡ calls.bytesFrom s (memory (now (main .entry)) (now (swap .entry))) va (length (now (into .entry))) ⌝ }
 {
     let mut i = 0;
@@ -21,7 +22,7 @@ pub(crate) fn read_bytes(s: Shape, main: &[u8], swap: &[u8], va: u32, into: &mut
 
 // "host write takes one".
 pub(crate) fn write_bytes(s: Shape, main: &mut [u8], swap: &mut [u8], va: u32, from: &[u8])
-    requires { ⌜ Lent s (now main) (length (now swap)) × Covered s va (length (now from)) ⌝ }
+    requires { ⌜ Lent s (now main) (length (now swap)) × InTable s va (length (now from)) ⌝ }
     ensures { λ _. ⌜ memory (now (main .exit)) (now (swap .exit)) ≡ calls.bytesTo s (memory (now (main .entry)) (now (swap .entry))) va (now (from .entry)) ⌝ }
 {
     let mut i = 0;

@@ -1,19 +1,16 @@
 -- `transfer::read_bytes`: after i turns the first i bytes have come.
-use Rattle.machine.proofs.Bytes.{from-next, length-from}
+use mathlib.Core.List.{_++_}
+use mathlib.Core.Path.{_≡_, refl, ap, _∙_}
+use Prim.Native.Nat.{_≤_, _-_}
+use native.Mathlib.Omega.{arith}
+use lib.ListN.{length, take, drop, set, length-set}
+use borrow.Author.Needs.{needs}
+use Rattle.model.specs.Calls.{bytesFrom}
 use Rattle.words.proofs.Copies.{copied-all}
 use Rattle.paging.specs.Ready.{memory}
-use Rattle.model.specs.Calls.{bytesFrom}
-use borrow.Author.Needs.{needs}
-use lib.ListN.{length, take, drop, set, length-set}
-use native.Mathlib.Omega.{arith}
-use Prim.Native.Nat.{_≤_, _-_}
-use mathlib.Core.List.{_++_}
-use mathlib.Core.Path.{_≡_, refl, sym, ap, _∙_}
+use Rattle.machine.proofs.Bytes.{from-next, length-from}
 use Rattle.machine.proofs.transfer.read_bytes.Statement.{statement}
 use Rattle.machine.proofs.transfer.read_bytes.Tie as tie
-use Rattle.machine.proofs.transfer.read_bytes.Reads as reads
-use Rattle.machine.proofs.transfer.read_bytes.Lts as lts
-use Rattle.machine.proofs.home.flat_byte.Reads as flat-byte-reads
 
 abbrev Inv-loop : tie.InvT-loop
 Inv-loop s main swap va into₀ i₀ into i = (i ≤ length into₀) × (length into ≡ length into₀) × (into ≡ take i (bytesFrom s (memory main swap) va (length into₀)) ++ drop i into₀)
@@ -21,35 +18,18 @@ Inv-loop s main swap va into₀ i₀ into i = (i ≤ length into₀) × (length 
 abbrev μ-loop : tie.MeasureT-loop
 μ-loop s main swap va into₀ i₀ into i = length into₀ - i
 
--- src/transfer.rt:16:5
 loop-holds : tie.Need-loop-holds Inv-loop μ-loop
 loop-holds c = (search needs, refl, refl)
 
--- src/transfer.rt:17:56
 cast-flat-byte : tie.Need-cast-flat-byte Inv-loop μ-loop
-cast-flat-byte c = search needs
+cast-flat-byte c = omega (arith, c .before .before .before .before .before .pre .1 (c .before .loop .i) (search needs), c .before .before .before .before .before .pre .0 .safe .fit .ptl-most)
 
--- src/transfer.rt:17:50
 add-flat-byte : tie.Need-add-flat-byte Inv-loop μ-loop
-add-flat-byte c = omega (arith, c .before .before .before .before .before .pre .1 .inside (c .before .loop .i) (search needs), c .before .before .before .before .before .pre .0 .safe .fit .ptl-most)
+add-flat-byte c = omega (arith, c .before .before .before .before .before .pre .1 (c .before .loop .i) (search needs), c .before .before .before .before .before .pre .0 .safe .fit .ptl-most)
 
--- src/transfer.rt:17:19
 flat-byte-requires : tie.Need-flat-byte-requires Inv-loop μ-loop
-flat-byte-requires c κs = (c .before .before .before .before .before .pre .0, c .before .before .before .before .before .pre .1 .inside _ (search needs))
+flat-byte-requires c κs = (c .before .before .before .before .before .pre .0, c .before .before .before .before .before .pre .1 _ (search needs))
 
--- src/transfer.rt:17:9
-slice-write-into : tie.Need-slice-write-into Inv-loop μ-loop
-slice-write-into c = search needs
-
--- src/transfer.rt:18:9
-add-i : tie.Need-add-i Inv-loop μ-loop
-add-i c = search needs
-
--- src/transfer.rt:16:5
-loop-less : tie.Need-loop-less Inv-loop μ-loop
-loop-less c = search needs
-
--- src/transfer.rt:16:5
 loop-again : tie.Need-loop-again Inv-loop μ-loop
 loop-again c =
     let a = c .before .before .before .before .before .before .args in
@@ -60,11 +40,6 @@ loop-again c =
           ∙ from-next (a .s) (memory (a .main .now) (a .swap .now)) (a .va) (a .into .now) _ _ (search needs) (c .flat-byte .ensures),
     )
 
--- src/transfer.rt:11:1
-same-length : tie.Need-same-length Inv-loop μ-loop
-same-length c = search needs
-
--- src/transfer.rt:11:1
 returns : tie.Need-returns Inv-loop μ-loop
 returns c =
     let a = c .before .before .before .before .before .args in
@@ -75,16 +50,5 @@ returns c =
 pub read-bytes-spec : {M : Type 1} → statement M
 read-bytes-spec =
     tie.close
-    (tie.spec
-    Inv-loop
-    μ-loop
-    loop-holds
-    cast-flat-byte
-    add-flat-byte
-    flat-byte-requires
-    slice-write-into
-    add-i
-    loop-less
-    loop-again
-    same-length
-    returns)
+    (tie.spec Inv-loop μ-loop loop-holds cast-flat-byte add-flat-byte flat-byte-requires (λ c. search needs) (λ c. search needs)
+    (λ c. search needs) loop-again (λ c. search needs) returns)

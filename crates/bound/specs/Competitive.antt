@@ -1,9 +1,6 @@
 -- The bound over the rule alone. Whoever keeps the rule with a frames: its loads times (a - h + 1) are at most a times what any
 -- schedule on h ≤ a frames pays for the same instructions in the same order, plus a (a - h) (`against-fewer`). With h = a:
 -- the loads are at most a times what it pays (`against-equal`).
---
--- Each time that a phase of our accesses ends, a + 1 different pages have been asked for since it began, and the schedule has held
--- them all; at most h of them it held at the beginning, so it has paid for a - h + 1 of them. We have loaded at most a.
 use mathlib.Core.Path.{_≡_, refl, subst}
 use mathlib.Core.List.{List, [], _∷_, _++_, nil-subset, cons-subset, mem-cons-self, mem-cons-of-mem, nodup-cons, Subset·refl, Subset·trans}
 use Prim.Native.Nat.{ℕ, suc, _+_, _*_, _-_, _≤_, _<_}
@@ -18,6 +15,10 @@ use Rattle.bound.specs.Schedule.{Holds, Schedule, bring, leave, serve, e
 use Rattle.bound.specs.Rule.{Ask, pageAsked, asked, loads, Sparing, pagesOf, Serving, idle, turn}
 use Rattle.bound.specs.Phases.{Phases, no-phase, same-phase, next-phase, all-phases}
 
+-- Each time that a phase of our accesses ends, a + 1 different pages have been asked for since it began, and the schedule has held
+-- them all; at most h of them it held at the beginning, so it has paid for a - h + 1 of them. We have loaded at most a.
+
+-- what a schedule that serves an instruction holds
 pub holds-sub : (held : List VirtualPage) (d : Demand) → Holds held d → pagesOf d ⊆ held
 holds-sub held (alone c) i = cons-subset .1 (i, nil-subset held)
 holds-sub held (both c d) i = cons-subset .1 (i .0, cons-subset .1 (i .1, nil-subset held))

@@ -1,3 +1,4 @@
+-- Schedules, the rule that the handler keeps, and the bound over that rule.
 pub mod Pages
 pub mod Schedule
 pub mod Rule

@@ -1,9 +1,6 @@
 -- THE STATEMENT of demand 3. The instructions that a machine carries out are a list of demands, and the handler is held against every
 -- schedule that serves the same instructions in the same order. Such a schedule too starts empty, holds at most h pages, holds an
 -- instruction's code and data page together, and pays one for each page brought in. It may know the whole order beforehand.
--- For a machine with a frames, the theorem is: whatever schedule on as many frames is chosen,
---     loads ≤ a * brings rival    for every    rival : Schedule a [] ds
--- (`against-equal` of Competitive, and `calls-equal` of Calls for a series of calls; both stand there for a schedule on fewer frames too).
 use mathlib.Core.List.{List, [], _∷_}
 use Prim.Native.Nat.{ℕ, suc, _≤_}
 use lib.ListN.{length}
@@ -31,3 +28,7 @@ brings (bring p fits rest) = suc (brings rest)
 brings (leave p rest) = brings rest
 brings (serve all rest) = brings rest
 brings end = 0
+
+-- For a machine with a frames, the theorem is: whatever schedule on as many frames is chosen,
+--     loads ≤ a * brings rival    for every    rival : Schedule a [] ds
+-- (`against-equal` of Competitive, and `calls-equal` of Calls for a series of calls; both stand there for a schedule on fewer frames too).

@@ -1,1 +1,2 @@
+-- What the contracts of an attempt name.
 pub mod Numbered

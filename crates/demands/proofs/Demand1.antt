@@ -18,8 +18,9 @@ use Rattle.model.specs.declared.Refusal.the-variants.{Bound, Unsound, Rights, T
 use Rattle.model.specs.declared.Verdict.{Verdict}
 use Rattle.model.specs.declared.Verdict.the-variants.{Granted}
 use Rattle.laws.specs.Good.{Good}
+use Rattle.laws.specs.Formed.{Formed}
 use Rattle.demands.specs.Refusals.{Row, _when_, _unless_, Decided}
-use Rattle.demands.specs.Conditions.{Fits, Denied, SomeDenied, RunTooLong, TransferTooLong, Register, UnknownImage, Rules, Lent}
+use Rattle.demands.specs.Conditions.{Fits, Denied, SomeDenied, RunTooLong, TransferTooLong, Register, UnknownImage, MemoryFits}
 use Rattle.demands.specs.Demand1.{machineRows, imageRows, transferRows, Whole, ExactlyWhen, refusedRun, refusedRead, refusedWrite, refusedView, refusedReply, refusedImage, refusedLoading, ChangesNothing, EmptyTransfer, Demand1}
 use Rattle.demands.proofs.Decide.{First, first-unless, last-unless, Answering, decides, unchanged}
 use Rattle.demands.proofs.Told.{fits-told, sound-told, some-denied-told, view-told, too-long-told, register-told, unknown-told, rule-told, room-told}
@@ -45,8 +46,8 @@ image-first : (l : List ℕ) (v : Verdict) (own : List Row) → First (verdictNu
     → First (verdictNumber (imageVerdict l v)) (imageRows l own)
 unfolding imageVerdict
 image-first l v own f =
-    first-unless (known l) Edition _ (5 when UnknownImage l) (6 unless Rules l ∷ own) refl (unknown-told l)
-    (λ q. first-unless (wellFormed l) Format v (6 unless Rules l) own refl (rule-told l) (λ s. f))
+    first-unless (known l) Edition _ (5 when UnknownImage l) (6 unless Formed l ∷ own) refl (unknown-told l)
+    (λ q. first-unless (wellFormed l) Format v (6 unless Formed l) own refl (rule-told l) (λ s. f))
 
 -- ---- the outcome that each call makes of its verdict
 run-answers : (p : State) (n : ℕ) → Answering (λ o. o .numbers .refused) (refusedRun p) (λ v. runBy v p n)
@@ -87,12 +88,12 @@ view-exactly p x len =
     (machine-first p _ (3 when Denied false p x ∷ []) len
     (last-unless (viewable (p .machine .shape) (p .memory .main) x) Rights (3 when Denied false p x) refl (view-told p x)))
 
-loading-exactly : (l : List ℕ) (m : Memory) → Decided (loadCall l m .refused) (imageRows l (7 unless Lent l m ∷ []))
+loading-exactly : (l : List ℕ) (m : Memory) → Decided (loadCall l m .refused) (imageRows l (7 unless MemoryFits l m ∷ []))
 unfolding loadCall loadVerdict
 loading-exactly l m =
     decides (load-answers l m) (loadVerdict l m) _ (omega arith)
-    (image-first l _ (7 unless Lent l m ∷ [])
-    (last-unless (room (framesOf l) (ptlOf l) (length (m .main)) (length (m .swap))) Room (7 unless Lent l m) refl (room-told l m)))
+    (image-first l _ (7 unless MemoryFits l m ∷ [])
+    (last-unless (room (framesOf l) (ptlOf l) (length (m .main)) (length (m .swap))) Room (7 unless MemoryFits l m) refl (room-told l m)))
 
 exactly-when : ExactlyWhen
 unfolding readCall writeCall replyCall replyVerdict imageCall

@@ -1,9 +1,14 @@
+-- The theorems; Summary ends in all three demands.
 pub mod Decide
 pub mod Told
 pub mod Demand1
 pub mod Unique
+pub mod FlatRun
+pub mod Demand2
+pub mod Loaded
 pub mod Wants
 pub mod Turns
 pub mod OrderLength
 pub mod Stories
 pub mod Demand3
+pub mod Summary

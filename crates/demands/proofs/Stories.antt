@@ -20,7 +20,7 @@ use Rattle.model.specs.declared.Verdict.the-variants.{Granted, Refused}
 use Rattle.laws.specs.Good.{Good}
 use Rattle.laws.specs.Mapped.{leaves, mapStep}
 use Rattle.laws.specs.Demand2.{flatOf}
-use Rattle.laws.specs.Named.{namesOnward}
+use Rattle.laws.specs.Named.{namesOnward, namesGranted}
 use Rattle.laws.proofs.Simulate.{run-all}
 use Rattle.laws.proofs.Instruction.{instruction-right}
 use Rattle.laws.proofs.Run.{GoodCounted, keeps, first-shape}
@@ -28,7 +28,7 @@ use Rattle.laws.proofs.Calls.{call-good, call-size}
 use Rattle.bound.specs.Orders.{firstCome}
 use Rattle.bound.specs.Frames.{pages}
 use Rattle.bound.specs.Handler as large
-use Rattle.demands.specs.Brought.{instructionBrings, runBrings, bringBy, callBrings, seriesBrings, Steps, no-step, one-step}
+use Rattle.demands.specs.Brought.{instructionBrings, runBrings, callBrings, seriesBrings, Steps, no-step, one-step}
 use Rattle.demands.specs.Demand3.{frames, residents}
 use Rattle.demands.proofs.Turns.{atLarge, Handled, instruction-handled}
 
@@ -115,7 +115,7 @@ pub call-handled : (p : State) (c : Call) → Good p
 unfolding after loadsOf callOrder callBrings runCall writeCall replyCall
 call-handled p (runs n) g = by (runVerdict p n)
   where
-    by : (v : Verdict) → Handled (uncounted p) (having (runBy v p n .state) (runBy v p n .numbers .loads)) (bringBy v p n) (atLarge p (orderBy v p n))
+    by : (v : Verdict) → Handled (uncounted p) (having (runBy v p n .state) (runBy v p n .numbers .loads)) (namesGranted v (runBrings n (uncounted p))) (atLarge p (orderBy v p n))
     by Granted = run-handled n (uncounted p) g
     by (Refused r) = still p p refl
 call-handled p (reads va n) g = still p p refl

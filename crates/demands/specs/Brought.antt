@@ -9,13 +9,10 @@ use Rattle.model.specs.Frames.{advanced, resident}
 use Rattle.model.specs.State.{State}
 use Rattle.model.specs.Handler.{load}
 use Rattle.model.specs.Run.{Counted, uncounted, try, instruction}
-use Rattle.model.specs.Calls.{runVerdict}
-use Rattle.model.specs.Series.{Call, runs, reads, writes, views, replies, after}
+use Rattle.model.specs.Series.{Call, after}
 use Rattle.model.specs.declared.FrameBook.{FrameBook}
 use Rattle.model.specs.declared.VirtualPage.{VirtualPage}
-use Rattle.model.specs.declared.Verdict.{Verdict}
-use Rattle.model.specs.declared.Verdict.the-variants.{Granted, Refused}
-use Rattle.laws.specs.Named.{namesAfter, namesOnward}
+use Rattle.laws.specs.Named.{namesAfter, namesOnward, namesOfCall}
 
 -- an instruction with at most k page loads, as `attempts`: a page that is missed is loaded, and the attempt begins anew
 unfoldable pub attemptsBring : ℕ → State → List VirtualPage
@@ -30,17 +27,9 @@ unfoldable pub runBrings : ℕ → Counted → List VirtualPage
 runBrings zero c = []
 runBrings (suc n) c = instructionBrings (c .state) ++ namesOnward (instruction c) (λ next. runBrings n next)
 
--- a call: only a run that is not refused
-abbrev pub bringBy : Verdict → State → ℕ → List VirtualPage
-bringBy Granted p n = runBrings n (uncounted p)
-bringBy (Refused r) p n = []
-
+-- a call: only a run that is granted
 unfoldable pub callBrings : State → Call → List VirtualPage
-callBrings p (runs n) = bringBy (runVerdict p n) p n
-callBrings p (reads va n) = []
-callBrings p (writes va bytes) = []
-callBrings p (views x) = []
-callBrings p (replies i v) = []
+callBrings p c = namesOfCall (λ q n. runBrings n (uncounted q)) p c
 
 unfoldable pub seriesBrings : State → List Call → List VirtualPage
 seriesBrings p [] = []

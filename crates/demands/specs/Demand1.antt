@@ -11,8 +11,9 @@ use Rattle.model.specs.Image.{ImageOutcome, imageCall, loadCall, zeroMachine}
 use Rattle.model.specs.declared.Machine.{Machine}
 use Rattle.model.specs.declared.VirtualPage.{VirtualPage}
 use Rattle.laws.specs.Good.{Good}
+use Rattle.laws.specs.Formed.{Formed}
 use Rattle.demands.specs.Refusals.{Row, _when_, _unless_, Decided}
-use Rattle.demands.specs.Conditions.{Fits, Denied, SomeDenied, RunTooLong, TransferTooLong, Register, UnknownImage, Rules, Lent}
+use Rattle.demands.specs.Conditions.{Fits, Denied, SomeDenied, RunTooLong, TransferTooLong, Register, UnknownImage, MemoryFits}
 
 -- "The first that applies in the order 1, 2, 4, 3 is given": a call on a machine has rows 1 and 2, and then its own
 abbrev pub machineRows : State → List Row → List Row
@@ -20,7 +21,7 @@ machineRows p own = 1 unless Fits p ∷ 2 unless Good p ∷ own
 
 -- "for images 5, 6, 7"
 abbrev pub imageRows : List ℕ → List Row → List Row
-imageRows l own = 5 when UnknownImage l ∷ 6 unless Rules l ∷ own
+imageRows l own = 5 when UnknownImage l ∷ 6 unless Formed l ∷ own
 
 -- a host transfer of n bytes from va on
 abbrev pub transferRows : (writing : Bool) → State → ℕ → ℕ → List Row
@@ -42,7 +43,7 @@ pub record ExactlyWhen : Type 0 where
       → Decided (viewCall p x .refused) (machineRows p (3 when Denied false p x ∷ []))
   pub reply : (m : Machine) (i v : ℕ) → Decided (replyCall m i v .refused) (4 unless Register i ∷ [])
   pub image : (l : List ℕ) → Decided (imageCall l .numbers .refused) (imageRows l [])
-  pub loading : (l : List ℕ) (m : Memory) → Decided (loadCall l m .refused) (imageRows l (7 unless Lent l m ∷ []))
+  pub loading : (l : List ℕ) (m : Memory) → Decided (loadCall l m .refused) (imageRows l (7 unless MemoryFits l m ∷ []))
 
 -- "A refusal returns its number, zero for every other number, an empty part for each part, the record as handed in (from loading, a
 -- record of zeros), and no lent byte differs."

@@ -1,26 +1,12 @@
 -- A run beside the run of its flat machine: it does the same (`RunsFlat`) and loads few pages (`FewLoads`); its stops 2 to 4 leave what
--- the finished instructions left, and come again (`Halts`).
-use mathlib.Core.Path.{_≡_, refl, sym, ap, _∙_}
+-- the finished instructions left, and come again (`Halts`). The theorems are in proofs/FlatRun.
+use mathlib.Core.Path.{_≡_}
 use Prim.Native.Nat.{ℕ, _+_, _*_, _<_, _≤_}
-use native.Mathlib.Omega.{arith}
-use Rattle.model.specs.State.{State}
 use Rattle.model.specs.Answers.{RunNumbers, stopNumber, stopDetail}
-use Rattle.model.specs.Run.{Course, ended, run, uncounted, instruction}
+use Rattle.model.specs.Run.{Course, ended, run}
 use Rattle.model.specs.Flat.{Flat, flat, flatInstruction}
-use Rattle.model.specs.Calls.{RunOutcome, runVerdict, reported, runBy, runCall}
-use Rattle.model.specs.Series.{runs, after}
-use Rattle.model.specs.declared.Stop.{Stop}
-use Rattle.model.specs.declared.Stop.the-variants.{Limit, Trap, Memory, Misaligned, Instruction}
-use Rattle.model.specs.declared.Verdict.{Verdict}
-use Rattle.model.specs.declared.Verdict.the-variants.{Granted, Refused}
-use Rattle.laws.specs.Good.{Good}
-use Rattle.laws.specs.Mapped.{mapCourse}
-use Rattle.laws.specs.Demand2.{flatOf}
-use Rattle.laws.proofs.Run.{run-right}
-use Rattle.laws.proofs.Loads.{run-loads}
-use Rattle.laws.proofs.Again.{Halted, run-halts, run-again}
-use Rattle.laws.proofs.Granted.{run-limit, run-reported}
-use Rattle.laws.proofs.Calls.{call-good}
+use Rattle.model.specs.Calls.{RunOutcome, runCall}
+use Rattle.model.specs.declared.Stop.the-variants.{Limit}
 
 -- The call with outcome o does what the flat machine does in the course c: the same stop and detail, as many instructions finished, and
 -- the flat machine of what it leaves (registers, memory, rights) is what c leaves.
@@ -36,6 +22,10 @@ pub record FewLoads (r : RunNumbers) : Type 0 where
   pub most : r .loads ≤ 2 * r .finished + 1
   pub limit : r .stop ≡ 0 → r .loads ≤ 2 * r .finished
 
+-- a run with outcome o ended by one of the stops 2 to 4
+abbrev pub Halting : RunOutcome → Type 0
+Halting o = 2 ≤ o .numbers .stop
+
 -- a call with outcome o, on a machine whose flat machine is f
 pub record Halts (f : Flat) (o : RunOutcome) : Type 0 where
   -- "Stops 2 to 4 leave registers as before that instruction": those finished, run alone, end by their limit and leave the same
@@ -44,60 +34,3 @@ pub record Halts (f : Flat) (o : RunOutcome) : Type 0 where
   pub again-stop : (m : ℕ) → 0 < m → m ≤ 1000000 → runCall (o .state) m .numbers .stop ≡ o .numbers .stop
   pub again-detail : (m : ℕ) → 0 < m → m ≤ 1000000 → runCall (o .state) m .numbers .detail ≡ o .numbers .detail
   pub again-finished : (m : ℕ) → 0 < m → m ≤ 1000000 → runCall (o .state) m .numbers .finished ≡ 0
-
-pub runs-flat : (p : State) → Good p → (n : ℕ) → n ≤ 1000000 → RunsFlat (runCall p n) (run flatInstruction n (flat p))
-runs-flat p g n h =
-    let e : runCall p n ≡ reported (run instruction n (uncounted p)) = run-reported p g n h in
-    let s : mapCourse flatOf (run instruction n (uncounted p)) ≡ run flatInstruction n (flat p) = run-right n (uncounted p) g .same in
-    record {
-      granted = ap (λ o. o .numbers .refused) e;
-      stop = ap (λ o. o .numbers .stop) e ∙ ap (λ c. stopNumber (c .stop)) s;
-      detail = ap (λ o. o .numbers .detail) e ∙ ap (λ c. stopDetail (c .stop)) s;
-      finished = ap (λ o. o .numbers .finished) e ∙ ap (λ c. c .finished) s;
-      left = ap (λ o. flat (o .state)) e ∙ ap (λ c. c .left) s;
-    }
-
-stop-zero : (s : Stop) → stopNumber s ≡ 0 → s ≡ Limit
-stop-zero Limit e = refl
-stop-zero (Trap n) e = absurd (omega (arith, e))
-stop-zero (Memory va) e = absurd (omega (arith, e))
-stop-zero (Misaligned va) e = absurd (omega (arith, e))
-stop-zero (Instruction w) e = absurd (omega (arith, e))
-
-module _ (p : State) (g : Good p) (n : ℕ) where
-  pub few-loads : FewLoads (runCall p n .numbers)
-  unfolding runCall
-  few-loads = by (runVerdict p n)
-    where
-      by : (v : Verdict) → FewLoads (runBy v p n .numbers)
-      by Granted = record {
-        most = omega (arith, run-loads n (uncounted p) g .most);
-        limit = λ e. omega (arith, run-loads n (uncounted p) g .limit (stop-zero _ e));
-      }
-      by (Refused r) = record { most = omega arith; limit = λ e. omega arith }
-
-  -- a run that such a stop ended was granted
-  within : 2 ≤ runCall p n .numbers .stop → n ≤ 1000000
-  unfolding runCall
-  within = by (runVerdict p n) refl
-    where
-      by : (v : Verdict) → runVerdict p n ≡ v → 2 ≤ runBy v p n .numbers .stop → n ≤ 1000000
-      by Granted q h = run-limit p n q
-      by (Refused r) q h = absurd (omega (arith, h))
-
-  pub halts : 2 ≤ runCall p n .numbers .stop → Halts (flat p) (runCall p n)
-  unfolding after
-  halts h =
-      let c : Course Flat = run flatInstruction n (flat p) in
-      let r : RunsFlat (runCall p n) c = runs-flat p g n (within h) in
-      let t : Halted (flat p) c = run-halts n (flat p) (rw (r .stop) at h) in
-      let next : (m : ℕ) → m ≤ 1000000 → RunsFlat (runCall (runCall p n .state) m) (run flatInstruction m (flat (runCall p n .state)))
-      = runs-flat (runCall p n .state) (call-good p g (runs n)) in
-      let again : (m : ℕ) → 0 < m → run flatInstruction m (flat (runCall p n .state)) ≡ ended (c .stop) 0 (c .left)
-      = λ m q. ap (run flatInstruction m) (r .left) ∙ run-again (c .left) (c .stop) (t .there) m q in
-      record {
-        before = rw (r .finished, r .left) (t .before);
-        again-stop = λ m q l. next m l .stop ∙ ap (λ k. stopNumber (k .stop)) (again m q) ∙ sym (r .stop);
-        again-detail = λ m q l. next m l .detail ∙ ap (λ k. stopDetail (k .stop)) (again m q) ∙ sym (r .detail);
-        again-finished = λ m q l. next m l .finished ∙ ap (λ k. k .finished) (again m q);
-      }

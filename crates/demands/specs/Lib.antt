@@ -1,3 +1,4 @@
+-- The statements of the three demands; Summary has them in one place.
 pub mod Refusals
 pub mod Conditions
 pub mod Demand1
@@ -7,3 +8,4 @@ pub mod Demand2
 pub mod Loaded
 pub mod Brought
 pub mod Demand3
+pub mod Summary

@@ -1,7 +1,7 @@
 -- A machine loaded from any image that is accepted is sound, and the flat machine it stands for is the image's: its pages, its rights,
 -- start and start+4 in DPC and PC', 0 in every register. It has the shape that loading makes, its frames are all free, the lent
--- memories keep their lengths, and the next call refuses it neither by 1 nor by 2.
-use mathlib.Core.Path.{_≡_, refl}
+-- memories keep their lengths, and the next call refuses it neither by 1 nor by 2. The theorem is `loaded` of proofs/Loaded.
+use mathlib.Core.Path.{_≡_}
 use mathlib.Core.Bool.{true}
 use mathlib.Core.List.{List}
 use Prim.Native.Nat.{ℕ, _/_}
@@ -12,14 +12,10 @@ use Rattle.model.specs.State.{Memory, State}
 use Rattle.model.specs.Sound.{fits, sound}
 use Rattle.model.specs.Flat.{Flat, flat}
 use Rattle.model.specs.Calls.{machineVerdict}
-use Rattle.model.specs.Image.{ptlOf, startOf, framesOf, rightsOf, pagesOf, meant, fresh, loadCall}
+use Rattle.model.specs.Image.{ptlOf, startOf, framesOf, rightsOf, pagesOf, meant}
 use Rattle.model.specs.declared.Shape.{Shape}
 use Rattle.model.specs.declared.Verdict.{Verdict}
 use Rattle.laws.specs.Good.{Good}
-use Rattle.laws.specs.Formed.{Accepted}
-use Rattle.laws.proofs.Sound.{sound-of}
-use Rattle.laws.proofs.Formed.{load-facts, load-accepted}
-use Rattle.laws.proofs.Fresh.{fresh-good, fresh-bytes, fresh-rights, fresh-main-long, fresh-swap-long}
 
 -- the flat machine of an image
 unfoldable pub imageFlat : List ℕ → Flat
@@ -47,29 +43,3 @@ pub record Loaded (l : List ℕ) (m : Memory) (p : State) : Type 0 where
   pub fitting : fits (p .machine .shape) (p .memory) ≡ true
   pub sound-machine : sound (p .machine) (p .memory .main) ≡ true
   pub onward : (after : Verdict) → machineVerdict p after ≡ after
-
--- no call refuses a good machine by 1 or 2
-good-onward : (p : State) → Good p → (after : Verdict) → machineVerdict p after ≡ after
-unfolding machineVerdict
-good-onward p g after = let t = sound-of p g in rw (t .0, t .1)
-
-fresh-loaded : (l : List ℕ) (m : Memory) → Accepted l m → Loaded l m (fresh l (length (m .main)))
-unfolding fresh flat imageFlat
-fresh-loaded l m a =
-    let g = fresh-good l m a in
-    let t = sound-of (fresh l (length (m .main))) g in
-    record {
-      good = g;
-      stands = rw (fresh-bytes l m a, fresh-rights l m a);
-      shape = refl;
-      frames = refl;
-      book = refl;
-      main-long = fresh-main-long l m a;
-      swap-long = fresh-swap-long l m a;
-      fitting = t .0;
-      sound-machine = t .1;
-      onward = good-onward (fresh l (length (m .main))) g;
-    }
-
-pub loaded : (l : List ℕ) (m : Memory) → loadCall l m .refused ≡ 0 → Loaded l m (loadCall l m .state)
-loaded l m e = let a = load-facts l m e in rw (load-accepted l m a) (fresh-loaded l m a)

@@ -1,3 +1,4 @@
+-- Laws that the proofs of the functions cite.
 pub mod Words
 pub mod Unknown
 pub mod Fields

@@ -1,1 +1,2 @@
+-- What the contracts of the decoder name.
 pub mod Asked

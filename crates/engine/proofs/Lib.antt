@@ -1,1 +1,2 @@
+-- Laws that the proof of the run cites.
 pub mod Running

@@ -8,7 +8,8 @@ use lib.ListN.{length, getD, take, drop, replicate, drop-of-length-le, length-ap
 use lib.Seq.{take-suc, take-at, take-add, take-all, drop-at, drop-drop, length-take-le, sets-eq}
 use Rattle.model.specs.Bytes.{store, page, withPage}
 use Rattle.model.specs.Image.{invalidEntries}
-use Rattle.image.specs.Fresh.{entryOf}
+use Rattle.laws.specs.Formed.{invalidEntry}
+use Rattle.laws.proofs.Fresh.{length-entries}
 
 -- ---- zeros
 pub all-zero : (d : List ℕ) (i : ℕ) → i ≤ length d → length d ≤ i → replicate i 0 ++ drop i d ≡ replicate (length d) 0
@@ -31,15 +32,10 @@ module _ (came d : List ℕ) (i : ℕ) (e : length came ≡ i) where
   left n = sym (drop-drop n i (came ++ drop i d)) ∙ ap (λ (l : List ℕ). drop n l) (drop-at came (drop i d) i e) ∙ drop-drop n i d
 
 -- ---- entries
-length-entries : (r : List ℕ) → length (invalidEntries r) ≡ 4 * length r
-unfolding invalidEntries
-length-entries [] = refl
-length-entries (x ∷ r) = omega (arith, length-entries r)
-
 entries-append : (r s : List ℕ) → invalidEntries (r ++ s) ≡ invalidEntries r ++ invalidEntries s
 unfolding invalidEntries
 entries-append [] s = refl
-entries-append (x ∷ r) s = ap (λ (t : List ℕ). entryOf x ∷ 0 ∷ 0 ∷ 0 ∷ t) (entries-append r s)
+entries-append (x ∷ r) s = ap (λ (t : List ℕ). invalidEntry x ∷ 0 ∷ 0 ∷ 0 ∷ t) (entries-append r s)
 
 -- a word below 256
 store-small : (l : List ℕ) (i v : ℕ) → v < 256 → i + 4 ≤ length l
@@ -55,11 +51,11 @@ module _ (r d : List ℕ) (x : ℕ) (h : x < length r) (k : 4 * length r ≤ len
   before : length (invalidEntries (take x r)) ≡ 4 * x
   before = length-entries (take x r) ∙ ap (λ (n : ℕ). 4 * n) (length-take-le x r (omega arith))
 
-  one-entry : invalidEntries (take x r) ++ (entryOf (getD r x 0) ∷ 0 ∷ 0 ∷ 0 ∷ []) ≡ invalidEntries (take (x + 1) r)
+  one-entry : invalidEntries (take x r) ++ (invalidEntry (getD r x 0) ∷ 0 ∷ 0 ∷ 0 ∷ []) ≡ invalidEntries (take (x + 1) r)
   unfolding invalidEntries
   one-entry = rw (add-one, take-suc r x 0) (sym (entries-append (take x r) (getD r x 0 ∷ [])))
 
-  pub entries-step : (e : ℕ) → e ≡ entryOf (getD r x 0)
+  pub entries-step : (e : ℕ) → e ≡ invalidEntry (getD r x 0)
       → store 4 (invalidEntries (take x r) ++ drop (4 * x) d) (4 * x) e ≡ invalidEntries (take (x + 1) r) ++ drop (4 * (x + 1)) d
   entries-step e q =
       let came = invalidEntries (take x r) in
@@ -93,6 +89,3 @@ unfolding withPage page
 pages-step p d x h =
     let n : 4096 * x + 4096 ≡ 4096 * (x + 1) = omega arith in
     next-part p d (4096 * x) 4096 (omega arith) ∙ ap (λ (k : ℕ). take k p ++ drop k d) n
-
-pub pages-all : (p d : List ℕ) (i : ℕ) → length p ≤ i → length d ≤ i → take i p ++ drop i d ≡ p
-pages-all p d i h k = rw (take-all i p h, drop-of-length-le d k) (append-nil p)

@@ -11,7 +11,7 @@ use Rattle.model.specs.Choice.{passes, everyBelow}
 use Rattle.model.specs.Image.{trailer, ptlOf, startOf, framesOf, rightsOf, known, wellFormed, imageVerdict}
 use Rattle.model.specs.declared.Refusal.the-variants.{Edition, Format}
 use Rattle.model.specs.declared.ImageAnswer.the-variants.{Image, NotImage}
-use Rattle.laws.proofs.Choice.{pass, and-left}
+use Rattle.laws.proofs.Choice.{pass}
 use Rattle.image.specs.Trailer.{trailerOf}
 use Rattle.image.specs.Sections.{rightsBy}
 use Rattle.image.specs.Format.{distancesRight, rightsRight, startAndFramesRight, answerOf}
@@ -34,20 +34,6 @@ module _ (t : Trailer) (n : ℕ) where
         ≡ distancesRight t n
     unfolding distancesRight passes
     ptl-right k = simp (le-leb 1 (t .ptl) h, le-leb (t .ptl) 1024 k, and-assoc, and-true)
-
--- what the tests that pass say
-pub record Distances (t : Trailer) (n : ℕ) : Type 0 where
-  pub high : t .ptl ≤ 1024
-  pub pages : t .pages ≡ 24 + t .ptl + 4096 * t .ptl
-  pub within : t .pages ≤ n
-
-pub distances : (t : Trailer) (n : ℕ) → distancesRight t n ≡ true → Distances t n
-unfolding distancesRight
-distances t n e = record {
-  high = leb-true (t .ptl) 1024 (pass _ e 1);
-  pages = eqb-true (t .pages) (24 + t .ptl + 4096 * t .ptl) (pass _ e 3);
-  within = leb-true (t .pages) n (pass _ e 4);
-}
 
 -- ---- start and frames
 module _ (start frames : ℕ) where
@@ -73,11 +59,9 @@ module _ (l : List ℕ) where
   unfolding wellFormed distancesRight passes everyRight startAndFramesRight
   split = simp (and-assoc, and-true)
 
-  pub passed-distances : wellFormed l ≡ true → distancesRight (trailerOf l) (length l) ≡ true
-  passed-distances e = and-left _ _ (sym split ∙ e)
-
   far-enough : distancesRight (trailerOf l) (length l) ≡ true → 24 + ptlOf l + 4096 * ptlOf l ≤ length l
-  far-enough e = let d = distances (trailerOf l) (length l) e in omega (arith, d .pages, d .within)
+  unfolding distancesRight
+  far-enough e = omega (arith, eqb-true (trailer l 1) (24 + ptlOf l + 4096 * ptlOf l) (pass _ e 3), leb-true (trailer l 1) (length l) (pass _ e 4))
 
   rights-read : distancesRight (trailerOf l) (length l) ≡ true → rightsRight (rightsBy l (ptlOf l)) ≡ everyRight
   unfolding everyRight

@@ -1,7 +1,7 @@
--- What loading writes: a page's first entry, the fresh record and the record of a refusal.
-use Prim.Native.Nat.{ℕ, _+_, _*_, _/_}
+-- What loading hands back: the fresh record, or the record of a refusal.
+use Prim.Native.Nat.{ℕ, _/_}
 use lib.ListN.{replicate}
-use Rattle.model.specs.Words.{low, field, plus}
+use Rattle.model.specs.Words.{plus}
 use Rattle.model.specs.Frames.{emptyBook}
 use Rattle.model.specs.Image.{meant, zeroMachine}
 use Rattle.model.specs.declared.Shape.{Shape}
@@ -10,10 +10,6 @@ use Rattle.model.specs.declared.Machine.{Machine}
 use Rattle.model.specs.declared.Handed.{Handed}
 use Rattle.model.specs.declared.Refusal.{Refusal}
 use Rattle.model.specs.declared.Verdict.the-variants.{Refused}
-
--- the entry by a rights byte: bit 2 r, bit 1 w
-abbrev pub entryOf : ℕ → ℕ
-entryOf right = 4 * low 1 right + 2 * field 1 1 right
 
 -- all but shape and program counters is 0
 abbrev pub blank : Shape → Pcs → Machine

@@ -1,3 +1,4 @@
+-- What the contracts of the reader and the loader name.
 pub mod Trailer
 pub mod Sections
 pub mod Format

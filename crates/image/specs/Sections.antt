@@ -1,9 +1,11 @@
 -- The sections of a file, by the ptl that one has read: total, so that code may ask for them by any number.
 use mathlib.Core.Bool.{_&&_}
+use mathlib.Core.Path.{_≡_}
 use mathlib.Core.List.{List, []}
-use Prim.Native.Nat.{ℕ, _+_, _-_, _*_}
+use Prim.Native.Nat.{ℕ, _+_, _-_, _*_, _≤_}
 use lib.Dec.{leb}
 use lib.ListN.{length, take, drop}
+use denote.Ref.{RefT, now, ptr}
 use Rattle.model.specs.Choice.{if_then_else_}
 
 -- the n bytes that begin `back` bytes before the end; none where the file has no such part
@@ -15,3 +17,9 @@ rightsBy l ptl = section l (24 + ptl) ptl
 
 abbrev pub pagesBy : List ℕ → ℕ → List ℕ
 pagesBy l ptl = section l (24 + ptl + 4096 * ptl) (4096 * ptl)
+
+-- "a part of the file's own bytes": in its block, and within its bounds
+pub record OwnBytes (file part : RefT (List ℕ)) : Type 0 where
+  pub block : part .ptr .0 ≡ file .ptr .0
+  pub low : file .ptr .1 ≤ part .ptr .1
+  pub high : part .ptr .1 + length (now part) ≤ file .ptr .1 + length (now file)

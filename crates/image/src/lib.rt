@@ -7,6 +7,7 @@ ghost use mathlib.Core.Path.{_≡_};
 ghost use Rattle.model.specs.Answers.{imageNumbers, verdictNumber};
 ghost use Rattle.model.specs.State.{state};
 ghost use Rattle.model.specs.Image.{imageCall, loadCall};
+ghost use Rattle.image.specs.Sections.{OwnBytes};
 
 mod format;
 mod fresh;
@@ -23,7 +24,7 @@ pub fn read(file: &[u8]) -> ImageAnswer
 
 // The two sections, each a part of the file's own bytes; "an empty part for each part" where the image is refused.
 pub fn pages(file: &[u8]) -> &[u8]
-    ensures { λ r. ⌜ now r ≡ imageCall (now (file .entry)) .pages ⌝ }
+    ensures { λ r. ⌜ (now r ≡ imageCall (now (file .entry)) .pages) × OwnBytes (file .entry) r ⌝ }
 {
     match format::answer(file) {
         ImageAnswer::Image {
@@ -36,7 +37,7 @@ pub fn pages(file: &[u8]) -> &[u8]
 }
 
 pub fn rights(file: &[u8]) -> &[u8]
-    ensures { λ r. ⌜ now r ≡ imageCall (now (file .entry)) .rights ⌝ }
+    ensures { λ r. ⌜ (now r ≡ imageCall (now (file .entry)) .rights) × OwnBytes (file .entry) r ⌝ }
 {
     match format::answer(file) {
         ImageAnswer::Image {

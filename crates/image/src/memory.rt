@@ -4,11 +4,11 @@ ghost use mathlib.Core.List.{_++_};
 ghost use Prim.Native.Nat.{_-_, _*_, _≤_};
 ghost use lib.ListN.{length, drop, replicate};
 ghost use Rattle.model.specs.Image.{invalidEntries};
-ghost use Rattle.image.specs.Fresh.{entryOf};
+ghost use Rattle.laws.specs.Formed.{invalidEntry};
 
 // The entry of a page that is not resident: ppx 0, v 0, r and w from its rights byte.
 fn entry(right: u32) -> u32
-    ensures { λ r. ⌜ r ≡ entryOf right ⌝ }
+    ensures { λ r. ⌜ r ≡ invalidEntry right ⌝ }
 {
     4 * (right % 2) + 2 * (right / 2 % 2)
 }

@@ -20,7 +20,7 @@ use Rattle.model.specs.declared.Shape.{Shape}
 use Rattle.model.specs.declared.VirtualPage.{VirtualPage}
 use Rattle.model.specs.declared.Access.the-variants.{Illegal, Fault, At}
 use Rattle.laws.specs.Good.{Safe}
-use Rattle.laws.proofs.Choice.{length-below, getD-below}
+use Rattle.laws.proofs.Choice.{clash, length-below, getD-below}
 use Rattle.laws.proofs.Bytes.{number-same}
 use Rattle.laws.proofs.Entries.{grants-rights}
 use Rattle.laws.proofs.Table.{flat-here}
@@ -82,19 +82,19 @@ pub through : (s : Shape) (main : List ℕ) (w : Bool) (va i : ℕ) → translat
 through s main w va i q = pick (way s main w va)
   where
     pick : Way s main w va → Through s main w va i
-    pick (outside o e) = let z : _≡_ {A = ℕ} 0 1 = cc in absurd (omega arith)
-    pick (denied n r e) = let z : _≡_ {A = ℕ} 0 1 = cc in absurd (omega arith)
-    pick (faults t e) = let z : _≡_ {A = ℕ} 0 1 = cc in absurd (omega arith)
+    pick (outside o e) = clash (cc)
+    pick (denied n r e) = clash (cc)
+    pick (faults t e) = clash (cc)
     pick (goes j t e) = let z : j ≡ i = cc in rw z at t
 
 pub absent : (s : Shape) (main : List ℕ) (w : Bool) (va : ℕ) → translate s main w va ≡ Fault → Absent s main w va
 absent s main w va q = pick (way s main w va)
   where
     pick : Way s main w va → Absent s main w va
-    pick (outside o e) = let z : _≡_ {A = ℕ} 0 1 = cc in absurd (omega arith)
-    pick (denied n r e) = let z : _≡_ {A = ℕ} 0 1 = cc in absurd (omega arith)
+    pick (outside o e) = clash (cc)
+    pick (denied n r e) = clash (cc)
     pick (faults t e) = t
-    pick (goes j t e) = let z : _≡_ {A = ℕ} 0 1 = cc in absurd (omega arith)
+    pick (goes j t e) = clash (cc)
 
 -- an aligned access ends in its page
 pub ends : (width : Width) (va : ℕ) → aligned (size width) va ≡ true → offset va + size width ≤ 4096
@@ -135,8 +135,8 @@ module _ (s : Shape) (m : Memory) where
       pick : Way s (m .main) w va → allow (flatRights s (m .main)) w va ≡ Illegal
       pick (outside o e) = simp (length-below, le-ltb)
       pick (denied i r e) = allow-inside w va i .1 r
-      pick (faults t e) = let z : _≡_ {A = ℕ} 0 1 = cc in absurd (omega arith)
-      pick (goes j t e) = let z : _≡_ {A = ℕ} 0 1 = cc in absurd (omega arith)
+      pick (faults t e) = clash (cc)
+      pick (goes j t e) = clash (cc)
 
   -- ---- what is read
   -- the byte of the flat memory

@@ -13,7 +13,7 @@ use Rattle.model.specs.declared.Outcome.{Outcome}
 use Rattle.model.specs.declared.Outcome.the-variants.{Done, Trapped, Missing, Stopped}
 use Rattle.model.specs.declared.Stop.{Stop}
 use Rattle.model.specs.declared.Stop.the-variants.{Limit, Trap, Memory}
-use Rattle.laws.proofs.Attempt.{clash}
+use Rattle.laws.proofs.Choice.{clash}
 use Rattle.laws.proofs.Simulate.{run-all}
 
 -- an instruction that stops so has finished nothing and changed nothing

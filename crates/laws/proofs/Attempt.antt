@@ -27,6 +27,7 @@ use Rattle.model.specs.declared.Pcs.{Pcs}
 use Rattle.model.specs.declared.Access.the-variants.{At}
 use Rattle.model.specs.declared.Outcome.the-variants.{Done, Missing}
 use Rattle.laws.specs.Good.{Fit, Seated, Good}
+pub use Rattle.laws.proofs.Choice.{clash}
 use Rattle.laws.proofs.Bytes.{length-store}
 use Rattle.laws.proofs.Access.{Absent, absent, legal, permits, illegal, reads}
 use Rattle.laws.proofs.Stores.{entry-kept, rights-kept, bytes-kept}
@@ -53,10 +54,6 @@ pub data Misses (p : State) (va : ℕ) : Type 0 where
   for-code : va ≡ p .machine .pcs .dpc → Absent (p .machine .shape) (p .memory .main) false va → Misses p va
   for-data : (writing : Bool) (pcs : Pcs) → va ≡ address (plan (p .machine .gpr) (p .machine .pcs .next) (number 4 (flatBytes (p .machine .shape) (p .memory)) (p .machine .pcs .dpc)))
       → Absent (p .machine .shape) (p .memory .main) writing va → flatTry (flat p) .outcome ≡ Done pcs → Misses p va
-
--- two outcomes that are none
-pub clash : {A : Type 0} → _≡_ {A = ℕ} 0 1 → A
-clash z = absurd (omega arith)
 
 pub missed : (p : State) (va : ℕ) → try p .outcome ≡ Missing va → Misses p va
 missed p va e = by (try p) (flatTry (flat p)) (came p) e refl

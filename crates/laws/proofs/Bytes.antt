@@ -11,10 +11,7 @@ use lib.Dec.{lit<}
 use lib.ListN.{length, getD, set, take, drop, length-set, List·getD-append, length-append, length-take, length-drop}
 use lib.Seq.{getD-set-same, getD-set-other, getD-append-add, getD-take, getD-drop, length-take-le, take-at, drop-at, ext-getD}
 use Rattle.model.specs.Bytes.{number, store, page, withPage}
-
--- the place j is none of the n places from i on
-abbrev pub Off : ℕ → ℕ → ℕ → Type 0
-Off i n j = i ≤ j → i + n ≤ j
+use Rattle.laws.specs.Named.{Off}
 
 -- ---- numbers
 -- two numbers are the same where their bytes are

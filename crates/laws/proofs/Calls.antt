@@ -1,25 +1,27 @@
 -- The calls on a good machine: what is handed out and what is written, where they are granted, against the flat memory (`read-call`,
--- `view-call`, `write-call`, `reply-call`); and refused or not the machine stays good (`call-good`) and of its shape (`call-size`).
+-- `view-call`, `write-call`, `reply-call`); and refused or not the machine stays good (`call-good`,
+-- `series-good`) and of its shape (`call-size`).
 use mathlib.Core.Path.{_≡_, refl, ap, ap₂, _∙_}
 use mathlib.Core.Bool.{true, false}
-use mathlib.Core.List.{List, _++_}
-use Prim.Native.Nat.{ℕ, _+_, _*_}
+use mathlib.Core.List.{List, [], _∷_}
+use Prim.Native.Nat.{ℕ, _*_}
 use native.Mathlib.Omega.{arith}
-use lib.ListN.{length, getD, take, drop, set}
+use lib.ListN.{length, getD, take, drop}
 use lib.Seq.{getD-set-other}
 use Rattle.model.specs.Bytes.{page}
 use Rattle.model.specs.State.{State}
 use Rattle.model.specs.Run.{uncounted}
 use Rattle.model.specs.Flat.{Flat, flat}
 use Rattle.model.specs.Calls.{runVerdict, runBy, runCall, hostVerdict, readBy, readCall, bytesTo, writeBy, writeCall, viewVerdict, viewBy, viewCall, replyVerdict, replyBy, replyCall}
-use Rattle.model.specs.Series.{Call, runs, reads, writes, views, replies, after}
+use Rattle.model.specs.Series.{Call, runs, reads, writes, views, replies, after, afterAll}
 use Rattle.model.specs.declared.Machine.{Machine}
 use Rattle.model.specs.declared.VirtualPage.{VirtualPage}
 use Rattle.model.specs.declared.Verdict.{Verdict}
 use Rattle.model.specs.declared.Verdict.the-variants.{Granted, Refused}
 use Rattle.laws.specs.Good.{Good}
 use Rattle.laws.specs.Mapped.{SameSize}
-use Rattle.laws.proofs.Bytes.{Off}
+use Rattle.laws.specs.Demand2.{flatWrite, withRegister}
+use Rattle.laws.specs.Named.{Off}
 use Rattle.laws.proofs.Size.{same-size}
 use Rattle.laws.proofs.Run.{run-right}
 use Rattle.laws.proofs.Poke.{kept-rights, kept-fit, kept-seated}
@@ -27,13 +29,11 @@ use Rattle.laws.proofs.Host.{Wrote, wrote, sets-put, read-flat, view-fl
 use Rattle.laws.proofs.Granted.{refused, host-inside, view-inside, reply-register}
 
 -- a reply is the same on every machine
-pub reply-call : (m : Machine) (i v : ℕ) → replyCall m i v .refused ≡ 0
-    → replyCall m i v .machine ≡ record { shape = m .shape; book = m .book; gpr = set (m .gpr) i v; pcs = m .pcs }
+pub reply-call : (m : Machine) (i v : ℕ) → replyCall m i v .refused ≡ 0 → replyCall m i v .machine ≡ withRegister m i v
 unfolding replyCall
 reply-call m i v = by (replyVerdict i)
   where
-    by : (w : Verdict) → replyBy w m i v .refused ≡ 0
-        → replyBy w m i v .machine ≡ record { shape = m .shape; book = m .book; gpr = set (m .gpr) i v; pcs = m .pcs }
+    by : (w : Verdict) → replyBy w m i v .refused ≡ 0 → replyBy w m i v .machine ≡ withRegister m i v
     by Granted e = refl
     by (Refused r) e = refused r e
 
@@ -62,21 +62,12 @@ module _ (p : State) (g : Good p) where
     granted q =
         wrote (p .machine .shape) (p .machine .book) (p .memory) (g .fit) (g .whole) (g .seated) va bytes (host-inside true p va (length bytes) q)
 
-    -- the flat machine with these bytes from va on
-    abbrev pub flat-written : Flat
-    flat-written = record {
-      gpr = flat p .gpr;
-      pcs = flat p .pcs;
-      bytes = take va (flat p .bytes) ++ bytes ++ drop (va + length bytes) (flat p .bytes);
-      rights = flat p .rights;
-    }
-
-    pub write-call : writeCall p va bytes .refused ≡ 0 → flat (writeCall p va bytes .state) ≡ flat-written
+    pub write-call : writeCall p va bytes .refused ≡ 0 → flat (writeCall p va bytes .state) ≡ flatWrite (flat p) va bytes
     unfolding writeCall flat
     write-call = by (hostVerdict true p va (length bytes)) refl
       where
         by : (v : Verdict) → hostVerdict true p va (length bytes) ≡ v → writeBy v p va bytes .refused ≡ 0
-            → flat (writeBy v p va bytes .state) ≡ flat-written
+            → flat (writeBy v p va bytes .state) ≡ flatWrite (flat p) va bytes
         by Granted q e =
             ap₂ {C = Flat} (λ l rights. record { gpr = p .machine .gpr; pcs = p .machine .pcs; bytes = l; rights = rights })
             (granted q .stored ∙ sets-put (p .machine .shape) (p .memory) va bytes (host-inside true p va (length bytes) q))
@@ -154,3 +145,9 @@ module _ (p : State) (g : Good p) where
 
   pub call-size : (c : Call) → SameSize p (after p c)
   call-size c = same-size p (after p c) g (call-good c) (call-shape c)
+
+-- any series of calls
+pub series-good : (p : State) → Good p → (cs : List Call) → Good (afterAll p cs)
+unfolding afterAll
+series-good p g [] = g
+series-good p g (c ∷ cs) = series-good (after p c) (call-good p g c) cs

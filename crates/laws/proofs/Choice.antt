@@ -1,6 +1,7 @@
--- Laws of tests: of `&&`, `||` and `not`, of a row of tests, of a test at each number below a bound; and of `listBelow`.
+-- Laws of tests: of `&&` and `||`, of a row of tests, of a test at each number below a bound; and of `listBelow`. And what follows
+-- where two constructors are one (`clash`, from `cc`).
 use mathlib.Core.Path.{_≡_, refl, sym, ap, ap₂, _∙_}
-use mathlib.Core.Bool.{Bool, true, false, _&&_, _||_, not, false≢true, true≢false}
+use mathlib.Core.Bool.{Bool, true, false, _&&_, _||_, false≢true, true≢false}
 use mathlib.Core.List.{List, [], _∷_}
 use Prim.Native.Nat.{ℕ, zero, suc, _<_}
 use native.Mathlib.Nat.{le-of-suc-le-suc, not-suc-le-zero}
@@ -8,6 +9,9 @@ use native.Mathlib.Omega.{arith}
 use native.Mathlib.Decide.{ℕ-discrete}
 use lib.ListN.{length, getD}
 use Rattle.model.specs.Choice.{passes, everyBelow, listBelow}
+
+pub clash : {A : Type 0} → _≡_ {A = ℕ} 0 1 → A
+clash z = absurd (omega arith)
 
 pub and-left : (a b : Bool) → (a && b) ≡ true → a ≡ true
 and-left true b e = refl
@@ -32,14 +36,6 @@ pub or-second : (a b : Bool) → (a || b) ≡ true → a ≡ false → b ≡ tru
 or-second true b e f = absurd (true≢false f)
 or-second false b e f = e
 
-pub not-true : (a : Bool) → not a ≡ true → a ≡ false
-not-true true e = absurd (false≢true e)
-not-true false e = refl
-
-pub not-false : (a : Bool) → not a ≡ false → a ≡ true
-not-false true e = refl
-not-false false e = absurd (true≢false e)
-
 -- ---- a test at each number below a bound
 pub every-at : (n : ℕ) (f : ℕ → Bool) → everyBelow n f ≡ true → (i : ℕ) → i < n → f i ≡ true
 unfolding everyBelow
@@ -62,6 +58,17 @@ every-not n f i h e = pick (everyBelow n f) refl
     pick : (c : Bool) → everyBelow n f ≡ c → everyBelow n f ≡ false
     pick true q = absurd (true≢false (sym (every-at n f q i h) ∙ e))
     pick false q = q
+
+-- one that fails is found
+pub some-fails : (n : ℕ) (f : ℕ → Bool) → everyBelow n f ≡ false → (i : ℕ) × (i < n) × (f i ≡ false)
+unfolding everyBelow
+some-fails zero f e = absurd (true≢false e)
+some-fails (suc n) f e = pick (everyBelow n f) refl (some-fails n f)
+  where
+    pick : (b : Bool) → everyBelow n f ≡ b → (everyBelow n f ≡ false → (i : ℕ) × (i < n) × (f i ≡ false))
+        → (i : ℕ) × (i < suc n) × (f i ≡ false)
+    pick true q below = (n, omega arith, rw q at e)
+    pick false q below = let t : (i : ℕ) × (i < n) × (f i ≡ false) = below q in (t .0, omega (arith, t .1), t .2)
 
 -- ---- a row of tests
 pub pass : (l : List Bool) → passes l ≡ true → (i : ℕ) → getD l i true ≡ true

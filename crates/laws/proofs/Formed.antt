@@ -5,7 +5,6 @@ use mathlib.Core.Bool.{Bool, true, false, _||_, _&&_}
 use mathlib.Core.Logic.{_⊎_, inl, inr}
 use mathlib.Core.List.{List}
 use Prim.Native.Nat.{ℕ, _≤_}
-use native.Mathlib.Omega.{arith}
 use lib.Dec.{eqb, leb}
 use lib.ListN.{length}
 use borrow.Author.Tests.{leb-true, eqb-true, le-leb, eq-eqb}
@@ -13,12 +12,12 @@ use Rattle.model.specs.State.{Memory}
 use Rattle.model.specs.Answers.{verdictNumber}
 use Rattle.model.specs.Calls.{unless}
 use Rattle.model.specs.Image.{ptlOf, framesOf, known, wellFormed, imageVerdict, imageBy, imageCall, room, loadVerdict, loadBy, loadCall}
-use Rattle.model.specs.declared.Refusal.{Refusal}
-use Rattle.model.specs.declared.Refusal.the-variants.{Bound, Unsound, Rights, TooMuch, Edition, Format, Room}
+use Rattle.model.specs.declared.Refusal.the-variants.{Edition, Format, Room}
 use Rattle.model.specs.declared.Verdict.{Verdict}
 use Rattle.model.specs.declared.Verdict.the-variants.{Granted, Refused}
 use Rattle.laws.specs.Formed.{Known, Formed, Roomy, Accepted}
 use Rattle.laws.proofs.Choice.{and-left, and-right, and-both, or-left, or-right, every-at, every-from, pass, pass-none, pass-more}
+use Rattle.laws.proofs.Granted.{granted, unless-granted}
 
 -- ---- tests and facts
 -- "Frames is 2 to 32, or 0"
@@ -83,28 +82,13 @@ module _ (frames ptl mainLength swapLength : ℕ) where
       pass-more _ _ (eq-eqb _ _ (r .whole)) (pass-more _ _ (le-leb _ _ (r .pages-least)) (pass-more _ _ (le-leb _ _ (r .pages-most))
       (pass-more _ _ (le-leb _ _ (r .frames-in)) (pass-more _ _ (eq-eqb _ _ (r .swap-long)) pass-none))))
 
--- ---- the verdicts: one that comes to number 0 grants
-granted : (v : Verdict) → verdictNumber v ≡ 0 → v ≡ Granted
-granted Granted e = refl
-granted (Refused Bound) e = absurd (omega (arith, e))
-granted (Refused Unsound) e = absurd (omega (arith, e))
-granted (Refused Rights) e = absurd (omega (arith, e))
-granted (Refused TooMuch) e = absurd (omega (arith, e))
-granted (Refused Edition) e = absurd (omega (arith, e))
-granted (Refused Format) e = absurd (omega (arith, e))
-granted (Refused Room) e = absurd (omega (arith, e))
-
--- a row of tests that grants in the end has passed this one, and grants after it
-passed : (c : Bool) (r : Refusal) (after : Verdict) → unless c r after ≡ Granted → (c ≡ true) × (after ≡ Granted)
-passed true r after e = (refl, e)
-passed false r after e = let z : _≡_ {A = ℕ} 0 1 = cc in absurd (omega (arith, z))
-
+-- ---- the verdicts
 module _ (l : List ℕ) where
   pub image-facts : (after : Verdict) → imageVerdict l after ≡ Granted → Known l × Formed l × (after ≡ Granted)
   unfolding imageVerdict
   image-facts after e =
-      let k = passed (known l) Edition (unless (wellFormed l) Format after) e in
-      let w = passed (wellFormed l) Format after (k .1) in
+      let k = unless-granted (known l) Edition (unless (wellFormed l) Format after) e in
+      let w = unless-granted (wellFormed l) Format after (k .1) in
       (known-of l (k .0), formed-of l (w .0), w .1)
 
   -- an image that is known and well formed leaves the verdict to what comes after
@@ -131,7 +115,7 @@ module _ (l : List ℕ) where
     unfolding loadCall loadVerdict
     load-facts e =
         let t = image-facts _ (granted _ (number (loadVerdict l m) e)) in
-        let r = passed (room (framesOf l) (ptlOf l) (length (m .main)) (length (m .swap))) Room Granted (t .2) in
+        let r = unless-granted (room (framesOf l) (ptlOf l) (length (m .main)) (length (m .swap))) Room Granted (t .2) in
         record { known = t .0; formed = t .1; roomy = roomy-of (framesOf l) (ptlOf l) (length (m .main)) (length (m .swap)) (r .0) }
       where
         number : (v : Verdict) → loadBy v l m .refused ≡ 0 → verdictNumber v ≡ 0

@@ -14,8 +14,7 @@ use Rattle.model.specs.declared.VirtualPage.{VirtualPage}
 use Rattle.model.specs.declared.Outcome.the-variants.{Missing}
 use Rattle.laws.specs.Good.{Good}
 use Rattle.laws.specs.Mapped.{leaves}
-use Rattle.laws.specs.Named.{loadNames, attemptsNames, instructionNames, namesOnward, runNames}
-use Rattle.laws.proofs.Bytes.{Off}
+use Rattle.laws.specs.Named.{Off, loadNames, attemptsNames, instructionNames, namesOnward, runNames}
 use Rattle.laws.proofs.Outside.{load-off, load-swap-off}
 use Rattle.laws.proofs.Attempt.{missing}
 use Rattle.laws.proofs.Third.{enough}

@@ -1,7 +1,7 @@
 -- The machine that loading makes of an accepted image: the lengths of the sections and of both memories, the entries of its table; it
 -- is good (`fresh-good`), and its flat machine has the image's pages and rights (`fresh-bytes`, `fresh-rights`).
 use mathlib.Core.Path.{_≡_, refl, sym, ap, _∙_}
-use mathlib.Core.Bool.{true, false, true≢false}
+use mathlib.Core.Bool.{false, true≢false}
 use mathlib.Core.Logic.{_⊎_, inl, inr}
 use mathlib.Core.List.{List, [], _∷_, _++_}
 use Prim.Native.Nat.{ℕ, zero, suc, _+_, _*_, _/_, _%_, _<_, _≤_}
@@ -21,15 +21,12 @@ use Rattle.model.specs.State.{Memory, State}
 use Rattle.model.specs.Image.{ptlOf, framesOf, rightsOf, pagesOf, meant, invalidEntries, fresh}
 use Rattle.model.specs.declared.VirtualPage.{VirtualPage}
 use Rattle.laws.specs.Good.{Fit, Seated, Good}
-use Rattle.laws.specs.Formed.{Formed, Accepted}
+use Rattle.laws.specs.Formed.{Formed, Accepted, invalidEntry}
 use Rattle.laws.proofs.Choice.{length-below, getD-below}
 use Rattle.laws.proofs.Bytes.{number-same}
 use Rattle.laws.proofs.Table.{flat-away}
 
 -- ---- an invalid entry by its rights byte: r and w are the byte's, v is 0
-abbrev pub invalidEntry : ℕ → ℕ
-invalidEntry b = 4 * low 1 b + 2 * field 1 1 b
-
 pub valid-invalid : (b : ℕ) → valid (invalidEntry b) ≡ false
 valid-invalid b = let z : low 1 (invalidEntry b) ≡ 0 = omega arith in ap (λ (n : ℕ). eqb n 1) z
 

@@ -1,7 +1,7 @@
 -- The host's transfers and the page view against the flat memory: a write is that store in the flat memory (`wrote`), a read hands out
 -- the flat bytes (`read-flat`), a view the flat page (`view-flat`).
 use mathlib.Core.Path.{_≡_, refl, sym, ap, ap₂, _∙_}
-use mathlib.Core.Bool.{Bool, true, false, false≢true}
+use mathlib.Core.Bool.{Bool, true, false, _&&_}
 use mathlib.Core.List.{List, [], _∷_, _++_}
 use Prim.Native.Nat.{ℕ, zero, suc, _+_, _*_, _<_, _≤_}
 use native.Mathlib.Omega.{arith}
@@ -14,30 +14,40 @@ use Rattle.model.specs.Bytes.{page}
 use Rattle.model.specs.Pages.{virtual, pageOf, offset, mainAt, swapOf, swapAt}
 use Rattle.model.specs.Table.{entry, ppx, valid}
 use Rattle.model.specs.State.{Memory}
-use Rattle.model.specs.Translate.{byEntry, translate, flatByte}
+use Rattle.model.specs.Translate.{has, translate, flatByte}
 use Rattle.model.specs.Flat.{flatBytes}
 use Rattle.model.specs.Calls.{legal, permitted, bytesFrom, poke, bytesTo, pageBytes}
 use Rattle.model.specs.declared.Shape.{Shape}
 use Rattle.model.specs.declared.FrameBook.{FrameBook}
 use Rattle.model.specs.declared.VirtualPage.{VirtualPage}
-use Rattle.model.specs.declared.Access.the-variants.{Illegal}
+use Rattle.model.specs.declared.Access.the-variants.{Illegal, Fault, At}
 use Rattle.laws.specs.Good.{Fit, SwapLong, Seated}
-use Rattle.laws.proofs.Choice.{every-at, length-below, getD-below}
+use Rattle.laws.proofs.Choice.{and-left, every-at, length-below, getD-below}
 use Rattle.laws.proofs.Bytes.{page-same}
 use Rattle.laws.proofs.Seated.{in-frames}
 use Rattle.laws.proofs.Table.{flat-here, flat-away}
 use Rattle.laws.proofs.Access.{bytes-at}
 use Rattle.laws.proofs.Poke.{Kept, kept-fit, kept-seated, poke-kept, poke-flat}
 
--- ---- a transfer that is permitted lies in the table
-legal-inside : (s : Shape) (main : List ℕ) (w : Bool) (va : ℕ) → legal (translate s main w va) ≡ true → pageOf va .0 < s .ptl
+-- ---- an access is legal exactly where its page is in the table and has the right
+pub legal-granted : (s : Shape) (main : List ℕ) (w : Bool) (va : ℕ)
+    → legal (translate s main w va) ≡ (ltb (pageOf va .0) (s .ptl) && has w (entry s main (pageOf va)))
 unfolding translate
-legal-inside s main w va e = pick (ltb (pageOf va .0) (s .ptl)) refl e
+legal-granted s main w va =
+    let e : ℕ = entry s main (pageOf va) in
+    by (ltb (pageOf va .0) (s .ptl)) (has w e) (valid e) (mainAt (ppx e) (offset va))
   where
-    pick : (c : Bool) → ltb (pageOf va .0) (s .ptl) ≡ c → legal (if c then byEntry (entry s main (pageOf va)) w va else Illegal) ≡ true → pageOf va .0 < s .ptl
-    pick true q r = ltb-true _ _ q
-    pick false q r = absurd (false≢true r)
+    by : (inside holds here : Bool) (at : ℕ)
+        → legal (if inside then (if holds then (if here then At at else Fault) else Illegal) else Illegal) ≡ (inside && holds)
+    by true true true at = refl
+    by true true false at = refl
+    by true false here at = refl
+    by false holds here at = refl
 
+pub legal-inside : (s : Shape) (main : List ℕ) (w : Bool) (va : ℕ) → legal (translate s main w va) ≡ true → pageOf va .0 < s .ptl
+legal-inside s main w va e = ltb-true _ _ (and-left _ _ (sym (legal-granted s main w va) ∙ e))
+
+-- a transfer that is permitted lies in the table
 abbrev pub InTable : Shape → ℕ → ℕ → Type 0
 InTable s va n = (i : ℕ) → i < n → pageOf (va + i) .0 < s .ptl
 

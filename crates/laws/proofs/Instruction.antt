@@ -15,7 +15,7 @@ use Rattle.model.specs.declared.Stop.the-variants.{Limit}
 use Rattle.laws.specs.Good.{Good}
 use Rattle.laws.specs.Mapped.{leaves, mapStep}
 use Rattle.laws.specs.Demand2.{flatOf, Right}
-use Rattle.laws.proofs.Bytes.{Off}
+use Rattle.laws.specs.Named.{Off}
 use Rattle.laws.proofs.Stores.{store-off}
 use Rattle.laws.proofs.Size.{same-size}
 use Rattle.laws.proofs.Agree.{Halts, at-memory, at-alignment, at-word, halts, misses-code, misses-data, sets, stores, traps}

@@ -1,3 +1,4 @@
+-- The laws, each module over those before it.
 pub mod Choice
 pub mod Bytes
 pub mod Seated

@@ -14,7 +14,8 @@ use Rattle.model.specs.declared.Shape.{Shape}
 use Rattle.model.specs.declared.FrameBook.{FrameBook}
 use Rattle.model.specs.declared.VirtualPage.{VirtualPage}
 use Rattle.laws.specs.Good.{Fit, SwapLong, Seated}
-use Rattle.laws.proofs.Bytes.{Off, withPage-other}
+use Rattle.laws.specs.Named.{Off}
+use Rattle.laws.proofs.Bytes.{withPage-other}
 use Rattle.laws.proofs.Table.{byte-other}
 use Rattle.laws.proofs.Moves.{frame-fits, swap-fits, leaving, coming, out-fit, out-whole}
 use Rattle.laws.proofs.Handler.{loaded-free, loaded-full}

@@ -9,7 +9,6 @@ use lib.ListN.{length, getD, set, length-set}
 use lib.Seq.{getD-set-same, getD-set-other, ext-getD}
 use Rattle.model.specs.Pages.{virtual, pageOf, offset, entryAt, mainAt, swapOf, swapAt}
 use Rattle.model.specs.Table.{entry, ppx, valid}
-use Rattle.model.specs.Frames.{pageIn}
 use Rattle.model.specs.State.{Memory}
 use Rattle.model.specs.Translate.{flatByte}
 use Rattle.model.specs.Flat.{rightsByte, flatBytes, flatRights}
@@ -20,7 +19,8 @@ use Rattle.model.specs.declared.VirtualPage.{VirtualPage}
 use Rattle.laws.proofs.Attempt.{seated-over}
 use Rattle.laws.specs.Good.{Fit, SwapLong, Seated}
 use Rattle.laws.proofs.Choice.{length-below, below-same}
-use Rattle.laws.proofs.Bytes.{Off, number-same}
+use Rattle.laws.specs.Named.{Off}
+use Rattle.laws.proofs.Bytes.{number-same}
 use Rattle.laws.proofs.Seated.{in-frames, apart}
 use Rattle.laws.proofs.Table.{flat-here, flat-away, flat-same}
 use Rattle.laws.proofs.Access.{bytes-at}

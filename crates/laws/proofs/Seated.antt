@@ -4,7 +4,6 @@ use mathlib.Core.Bool.{true}
 use mathlib.Core.List.{List}
 use Prim.Native.Nat.{ℕ, _+_, _<_, _≤_}
 use native.Mathlib.Omega.{arith}
-use lib.ListN.{length}
 use Rattle.model.specs.Pages.{virtual}
 use Rattle.model.specs.Table.{entry, ppx, valid}
 use Rattle.model.specs.Frames.{pageIn}
@@ -12,7 +11,7 @@ use Rattle.model.specs.State.{State}
 use Rattle.model.specs.declared.Shape.{Shape}
 use Rattle.model.specs.declared.FrameBook.{FrameBook}
 use Rattle.model.specs.declared.VirtualPage.{VirtualPage}
-use Rattle.laws.specs.Good.{Fit, Seated, Good, Safe}
+use Rattle.laws.specs.Good.{Seated, Good, Safe}
 
 -- two page numbers that are the same number
 pub same-page : {x y : VirtualPage} → x .0 ≡ y .0 → x ≡ y

@@ -9,7 +9,7 @@ use native.Mathlib.Nat.{not-suc-le-zero}
 use native.Mathlib.Decide.{decLt, ℕ-discrete}
 use lib.Dec.{eqb, ltb}
 use lib.ListN.{length, getD}
-use borrow.Author.Tests.{leb-true, ltb-true, eqb-true, le-leb, lt-ltb, le-ltb, eq-eqb, ne-eqb}
+use borrow.Author.Tests.{leb-true, ltb-true, eqb-true, le-leb, lt-ltb, le-ltb, eq-eqb, ne-eqb, not-true}
 use Rattle.model.specs.Choice.{if_then_else_, passes}
 use Rattle.model.specs.Pages.{virtual}
 use Rattle.model.specs.Table.{entry, valid}
@@ -20,7 +20,7 @@ use Rattle.model.specs.declared.Shape.{Shape}
 use Rattle.model.specs.declared.FrameBook.{FrameBook}
 use Rattle.model.specs.declared.VirtualPage.{VirtualPage}
 use Rattle.laws.specs.Good.{Fit, SwapLong, Seated, Good}
-use Rattle.laws.proofs.Choice.{and-left, and-right, and-both, or-left, or-right, or-second, not-true, every-at, every-from, pass, pass-none, pass-more}
+use Rattle.laws.proofs.Choice.{and-left, and-right, and-both, or-left, or-right, or-second, every-at, every-from, pass, pass-none, pass-more}
 use Rattle.laws.proofs.Seated.{same-page}
 
 -- ---- a page is found among frames exactly where one of them holds it

@@ -21,7 +21,8 @@ use Rattle.model.specs.declared.VirtualPage.{VirtualPage}
 use Rattle.model.specs.declared.Access.the-variants.{At}
 use Rattle.laws.specs.Good.{Fit, Seated}
 use Rattle.laws.proofs.Choice.{length-below, below-same}
-use Rattle.laws.proofs.Bytes.{Off, number-same, store-other, store-same, length-store}
+use Rattle.laws.specs.Named.{Off}
+use Rattle.laws.proofs.Bytes.{number-same, store-other, store-same, length-store}
 use Rattle.laws.proofs.Seated.{same-page, in-frames, apart}
 use Rattle.laws.proofs.Table.{flat-here, flat-same}
 use Rattle.laws.proofs.Access.{Through, through, ends, within, bytes-at}

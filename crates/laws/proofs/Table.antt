@@ -14,7 +14,8 @@ use Rattle.model.specs.Translate.{flatByte}
 use Rattle.model.specs.declared.Shape.{Shape}
 use Rattle.model.specs.declared.VirtualPage.{VirtualPage}
 use Rattle.laws.specs.Good.{Fit}
-use Rattle.laws.proofs.Bytes.{Off, number-same, number-other, number-store, store-other, length-store, withPage-other}
+use Rattle.laws.specs.Named.{Off}
+use Rattle.laws.proofs.Bytes.{number-same, number-other, number-store, store-other, length-store, withPage-other}
 
 module _ (s : Shape) (main : List ℕ) where
   pub entry-same : Fit s (length main) → (x : VirtualPage) (e : ℕ) → x .0 < s .ptl → e < 2 ^ 32 → entry s (withEntry s main x e) x ≡ e

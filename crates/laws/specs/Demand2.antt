@@ -1,13 +1,16 @@
 -- Demand 2 as statements: what an instruction and a run of the paged machine come to is what its flat machine comes to (`Right`,
--- `RunRight`); and how many pages they load (`Few`, `RunFew`).
+-- `RunRight`); how many pages they load (`Few`, `RunFew`); and what a host write and a reply leave (`flatWrite`, `withRegister`).
 use mathlib.Core.Path.{_≡_}
 use mathlib.Core.Bool.{true}
+use mathlib.Core.List.{List, _++_}
 use Prim.Native.Nat.{ℕ, _+_, _*_, _≤_}
+use lib.ListN.{length, take, drop, set}
 use Rattle.model.specs.Pages.{pageOf}
 use Rattle.model.specs.Table.{entry, valid}
 use Rattle.model.specs.State.{State}
 use Rattle.model.specs.Run.{Step, stops, Course, Counted, run, instruction}
 use Rattle.model.specs.Flat.{Flat, flat, flatInstruction}
+use Rattle.model.specs.declared.Machine.{Machine}
 use Rattle.model.specs.declared.Stop.{Stop}
 use Rattle.model.specs.declared.Stop.the-variants.{Limit}
 use Rattle.laws.specs.Good.{Good}
@@ -45,3 +48,17 @@ pub record RunRight (n : ℕ) (c : Counted) : Type 0 where
 pub record RunFew (c : Counted) (r : Course Counted) : Type 0 where
   pub most : r .left .loads ≤ c .loads + 2 * r .finished + 1
   pub limit : r .stop ≡ Limit → r .left .loads ≤ c .loads + 2 * r .finished
+
+-- ---- the host
+-- the flat machine with these bytes in the place of as many from va on
+abbrev pub flatWrite : Flat → ℕ → List ℕ → Flat
+flatWrite f va bytes = record {
+  gpr = f .gpr;
+  pcs = f .pcs;
+  bytes = take va (f .bytes) ++ bytes ++ drop (va + length bytes) (f .bytes);
+  rights = f .rights;
+}
+
+-- the record with one register set
+abbrev pub withRegister : Machine → ℕ → ℕ → Machine
+withRegister m i v = record { shape = m .shape; book = m .book; gpr = set (m .gpr) i v; pcs = m .pcs }

@@ -1,10 +1,11 @@
 -- What loading accepts, as named facts: an image that is known (`Known`) and well formed (`Formed`), and lent memories that it fits
--- (`Roomy`); all three are `Accepted`. The tests of the model pass exactly where these hold: proofs/Formed.
+-- (`Roomy`); all three are `Accepted`. The tests of the model pass exactly where these hold: proofs/Formed. And the entry it makes.
 use mathlib.Core.Path.{_≡_}
 use mathlib.Core.Logic.{_⊎_}
 use mathlib.Core.List.{List}
 use Prim.Native.Nat.{ℕ, _+_, _*_, _/_, _%_, _<_, _≤_}
 use lib.ListN.{length, getD}
+use Rattle.model.specs.Words.{low, field}
 use Rattle.model.specs.State.{Memory}
 use Rattle.model.specs.Image.{trailer, ptlOf, startOf, framesOf, rightsOf, meant}
 
@@ -13,18 +14,21 @@ pub record Known (l : List ℕ) : Type 0 where
   pub long : 24 ≤ length l
   pub edition : trailer l 5 ≡ 1
 
--- "With ptl 1 to 1024, the distances must be 24+ptl and 24+ptl+4096·ptl and lie within the file. At most 1024 bytes may stand before
--- the pages (a maker's label, skipped). Rights: one byte a page, 1 read, 2 write, 3 both, 0 none. Start is a multiple of 4. Frames
--- is 2 to 32, or 0, which means 2."
+-- every trailer number, each rights byte and the label's length keeps its rule
 pub record Formed (l : List ℕ) : Type 0 where
+  -- "With ptl 1 to 1024, the distances must be 24+ptl and 24+ptl+4096·ptl and lie within the file."
   pub ptl-least : 1 ≤ ptlOf l
   pub ptl-most : ptlOf l ≤ 1024
   pub to-rights : trailer l 0 ≡ 24 + ptlOf l
   pub to-pages : trailer l 1 ≡ 24 + ptlOf l + 4096 * ptlOf l
   pub within : trailer l 1 ≤ length l
+  -- "At most 1024 bytes may stand before the pages (a maker's label, skipped)."
   pub label-most : length l ≤ trailer l 1 + 1024
+  -- "Rights: one byte a page, 1 read, 2 write, 3 both, 0 none."
   pub rights-most : (x : ℕ) → x < ptlOf l → getD (rightsOf l) x 0 ≤ 3
+  -- "Start is a multiple of 4."
   pub start-aligned : startOf l % 4 ≡ 0
+  -- "Frames is 2 to 32, or 0, which means 2."
   pub frames-known : (framesOf l ≡ 0) ⊎ ((2 ≤ framesOf l) × (framesOf l ≤ 32))
 
 -- "Swap must be 4096·ptl bytes; main memory 3 to 64 whole pages, at least 1+frames."
@@ -39,3 +43,7 @@ pub record Accepted (l : List ℕ) (m : Memory) : Type 0 where
   pub known : Known l
   pub formed : Formed l
   pub roomy : Roomy (framesOf l) (ptlOf l) (length (m .main)) (length (m .swap))
+
+-- "the invalid entries (ppx 0, r and w from the rights)": the one by a rights byte
+abbrev pub invalidEntry : ℕ → ℕ
+invalidEntry b = 4 * low 1 b + 2 * field 1 1 b

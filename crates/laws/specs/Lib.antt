@@ -1,3 +1,4 @@
+-- What the laws speak of: named facts and statements.
 pub mod Good
 pub mod Mapped
 pub mod Demand2

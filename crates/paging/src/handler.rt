@@ -52,7 +52,8 @@ pub fn load(s: Shape, b: FrameBook, main: &mut [u8], swap: &mut [u8], y: Virtual
     requires { ⌜ ready.Ready s b (length (now main)) (length (now swap)) y ⌝ }
     ensures { λ r. ⌜ record { book = r; memory = ready.memory (now (main .exit)) (now (swap .exit)) } ≡ ready.afterLoad s b (ready.memory (now (main .entry)) (now (swap .entry))) y ⌝ }
 {
+    let next = book::advanced(s.frames, b, y);
     vacate(s, b, main, swap, y);
     bring_in(s, main, swap, book::frame(s.frames, b), y);
-    book::advanced(s.frames, b, y)
+    next
 }

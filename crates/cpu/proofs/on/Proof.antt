@@ -1,5 +1,4 @@
 -- `on` goes to the next instruction.
-
 use borrow.Author.Needs.{needs}
 use Rattle.cpu.proofs.on.Statement.{statement}
 use Rattle.cpu.proofs.on.Tie as tie

@@ -9,29 +9,31 @@ returns : tie.Need-returns
 returns c =
     let k = c .before .before in
     let a = k .before .before .before .before .before .before .before .before .args in
-    no-room (a .file .now) (a .main .now) (a .swap .now) _ _ _
-    (sym (k .before .before .before .before .answer .ensures) ∙ k .before .before .ptl .given .1) _ (k .room .ensures) (c .before .if1 .taken) _ (c .refused2 .ensures)
+    let e = sym (k .before .before .before .before .answer .ensures) ∙ k .before .before .ptl .given .1 in
+    no-room (a .file .now) (a .main .now) (a .swap .now) _ _ _ e _ (k .room .ensures) (c .before .if1 .taken) _ (c .refused2 .ensures)
 
 machine-requires : tie.Need-machine-requires
 machine-requires c κs =
     let k = c .before in
     let a = k .before .before .before .before .before .before .before .before .args in
-    few-pages (a .file .now) (a .main .now) (a .swap .now) _ _ _
-    (sym (k .before .before .before .before .answer .ensures) ∙ k .before .before .ptl .given .1) _ (k .room .ensures) (c .if1 .left)
+    let e = sym (k .before .before .before .before .answer .ensures) ∙ k .before .before .ptl .given .1 in
+    few-pages (a .file .now) (a .main .now) (a .swap .now) _ _ _ e _ (k .room .ensures) (c .if1 .left)
 
 fill-main-requires : tie.Need-fill-main-requires
 fill-main-requires c κs =
     let k = c .before .before .before .before in
     let a = k .before .before .before .before .before .before .before .before .args in
-    table-fits (a .file .now) (a .main .now) (a .swap .now) _ _ _
-    (sym (k .before .before .before .before .answer .ensures) ∙ k .before .before .ptl .given .1) _ (k .room .ensures) (c .before .before .before .if1 .left) _ (c .before .rights-of .ensures)
+    let e = sym (k .before .before .before .before .answer .ensures) ∙ k .before .before .ptl .given .1 in
+    table-fits (a .file .now) (a .main .now) (a .swap .now) _ _ _ e _ (k .room .ensures) (c .before .before .before .if1 .left) _
+    (c .before .rights-of .ensures .0)
 
 fill-swap-requires : tie.Need-fill-swap-requires
 fill-swap-requires c κs =
-    let k = c .before .before .before .before .before .before .before .before .before in
+    let test = c .before .before .before .before .before .before .before .before in
+    let k = test .before in
     let a = k .before .before .before .before .before .before .before .before .args in
-    pages-fit (a .file .now) (a .main .now) (a .swap .now) _ _ _
-    (sym (k .before .before .before .before .answer .ensures) ∙ k .before .before .ptl .given .1) _ (k .room .ensures) (c .before .before .before .before .before .before .before .before .if1 .left) _ (c .before .pages-of .ensures)
+    let e = sym (k .before .before .before .before .answer .ensures) ∙ k .before .before .ptl .given .1 in
+    pages-fit (a .file .now) (a .main .now) (a .swap .now) _ _ _ e _ (k .room .ensures) (test .if1 .left) _ (c .before .pages-of .ensures .0)
 
 returns-2 : tie.Need-returns-2
 returns-2 c =
@@ -41,13 +43,14 @@ returns-2 c =
 
 returns-3 : tie.Need-returns-3
 returns-3 c =
-    let k = c .before .before .before .before .before .before .before .before .before .before .before .before in
+    let filled = c .before .before .before .before .before .before .before in
+    let made = filled .before .before .before in
+    let k = made .before .before in
     let a = k .before .before .before .before .before .before .before .before .args in
-    loaded (a .file .now) (a .main .now) (a .swap .now) _ _ _
-    (sym (k .before .before .before .before .answer .ensures) ∙ k .before .before .ptl .given .1) _ (k .room .ensures) (c .before .before .before .before .before .before .before .before .before .before .before .if1 .left) _
-    (c .before .before .before .before .before .before .before .before .before .before .machine .ensures) _ _ _ _
-    (c .before .before .before .before .before .before .before .before .before .rights-of .ensures) (c .before .before .before .before .pages-of .ensures)
-    (c .before .before .before .before .before .before .before .fill-main .ensures) (c .before .before .fill-swap .ensures)
+    let e = sym (k .before .before .before .before .answer .ensures) ∙ k .before .before .ptl .given .1 in
+    loaded (a .file .now) (a .main .now) (a .swap .now) _ _ _ e _ (k .room .ensures) (made .before .if1 .left) _ (made .machine .ensures)
+    _ _ _ _ (filled .before .before .rights-of .ensures .0) (c .before .before .before .before .pages-of .ensures .0) (filled .fill-main .ensures)
+    (c .before .before .fill-swap .ensures)
 
 pub load-spec : {M : Type 1} → statement M
 load-spec =

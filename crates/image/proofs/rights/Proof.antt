@@ -1,6 +1,6 @@
 -- `rights`: the section of an accepted image, or an empty part.
 use Rattle.image.proofs.Accepted.{some-rights, no-rights}
-use mathlib.Core.Path.{sym, _∙_}
+use mathlib.Core.Path.{refl, sym, _∙_}
 use borrow.Author.Needs.{needs}
 use Rattle.image.proofs.rights.Statement.{statement}
 use Rattle.image.proofs.rights.Tie as tie
@@ -8,10 +8,11 @@ use Rattle.image.proofs.rights.Tie as tie
 returns : tie.Need-returns
 returns c =
     let k = c .before .before in
-    c .rights-of .ensures ∙ some-rights _ _ _ _ (sym (k .before .before .answer .ensures) ∙ k .ptl .given .1)
+    (c .rights-of .ensures .0 ∙ some-rights _ _ _ _ (sym (k .before .before .answer .ensures) ∙ k .ptl .given .1), c .rights-of .ensures .1)
 
 returns-2 : tie.Need-returns-2
-returns-2 c = no-rights _ _ (sym (c .before .before .before .answer .ensures) ∙ c .before .enum-told .given .1)
+returns-2 c =
+    (no-rights _ _ (sym (c .before .before .before .answer .ensures) ∙ c .before .enum-told .given .1), record { block = refl; low = search needs; high = search needs })
 
 pub rights-spec : {M : Type 1} → statement M
 rights-spec =

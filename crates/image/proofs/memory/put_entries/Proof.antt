@@ -7,7 +7,7 @@ use borrow.Author.Needs.{needs}
 use lib.ListN.{length, take, drop}
 use Rattle.model.specs.Bytes.{store}
 use Rattle.model.specs.Image.{invalidEntries}
-use Rattle.image.specs.Fresh.{entryOf}
+use Rattle.laws.specs.Formed.{invalidEntry}
 use Rattle.laws.proofs.Bytes.{length-store}
 use Rattle.image.proofs.Filled.{entries-step, entries-all}
 use Rattle.image.proofs.memory.put_entries.Statement.{statement}
@@ -41,7 +41,8 @@ loop-again c =
       omega arith,
       ap length (p .ensures) ∙ length-store 4 _ (4 * i) (e .result) ∙ v .1,
       p .ensures ∙ ap (λ m. store 4 m (4 * i) (e .result)) (v .2)
-          ∙ entries-step (a .rights .now) (a .main .now) i (omega arith) (omega arith) (e .result) (e .ensures ∙ ap entryOf (c .before .before .before .before .wide .ensures .0)),
+          ∙ entries-step (a .rights .now) (a .main .now) i (omega arith) (omega arith) (e .result)
+          (e .ensures ∙ ap invalidEntry (c .before .before .before .before .wide .ensures .0)),
     )
 
 same-length : tie.Need-same-length Inv-loop μ-loop

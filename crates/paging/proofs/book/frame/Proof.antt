@@ -1,5 +1,5 @@
-use borrow.Author.Needs.{needs}
 -- `book::frame`: a frame is free, or none is.
+use borrow.Author.Needs.{needs}
 use mathlib.Core.Path.{sym}
 use Rattle.laws.proofs.Seats.{frame-free, frame-full}
 use Rattle.paging.proofs.book.frame.Statement.{statement}

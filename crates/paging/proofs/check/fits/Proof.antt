@@ -1,7 +1,7 @@
+-- `check::fits`: the row of tests.
 use Rattle.model.specs.Sound.{shapeTests, fits}
 use Rattle.paging.specs.Ready.{memory}
 use Rattle.paging.proofs.Rows.{joined, chained, chained-passes}
--- `check::fits`: the row of tests.
 use borrow.Author.Needs.{needs}
 use Rattle.paging.proofs.check.fits.Statement.{statement}
 use Rattle.paging.proofs.check.fits.Tie as tie

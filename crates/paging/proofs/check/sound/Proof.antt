@@ -23,7 +23,9 @@ returns-5 : tie.Need-returns-5
 returns-5 c = unsound _ _ 4 (failed _ _ (c .before .rest-zero .ensures) (c .if5 .taken))
 
 frames-seated-requires : tie.Need-frames-seated-requires
-frames-seated-requires c κs = (search needs, search needs, passed _ _ (c .before .before .before .before .before .held-in-table .ensures) (c .before .before .before .before .if3 .left))
+frames-seated-requires c κs =
+    let held = c .before .before .before .before in
+    (search needs, search needs, passed _ _ (held .before .held-in-table .ensures) (held .if3 .left))
 
 returns-6 : tie.Need-returns-6
 returns-6 c = unsound _ _ 5 (failed _ _ (c .before .frames-seated .ensures) (c .if6 .taken))
@@ -36,10 +38,15 @@ returns-7 c = unsound _ _ 6 (failed _ _ (c .before .table-only .ensures) (c .if7
 
 returns-8 : tie.Need-returns-8
 returns-8 c =
+    let seats = c .before .before .before in
+    let rest = seats .before .before in
+    let differ = rest .before .before in
+    let held = differ .before .before in
+    let used = held .before .before in
     c .hand-right .ensures
-    ∙ sound-so-far _ _ (c .before .before .before .before .before .before .before .before .before .before .before .before .before .before .if1 .left) (c .before .before .before .before .before .before .before .before .before .before .before .if2 .left) (passed _ _ (c .before .before .before .before .before .before .before .before .before .before .held-in-table .ensures) (c .before .before .before .before .before .before .before .before .before .if3 .left))
-    (passed _ _ (c .before .before .before .before .before .before .before .before .all-different .ensures) (c .before .before .before .before .before .before .before .if4 .left)) (passed _ _ (c .before .before .before .before .before .before .rest-zero .ensures) (c .before .before .before .before .before .if5 .left))
-    (passed _ _ (c .before .before .before .before .frames-seated .ensures) (c .before .before .before .if6 .left)) (passed _ _ (c .before .before .table-only .ensures) (c .before .if7 .left))
+    ∙ sound-so-far _ _ (used .before .before .before .if1 .left) (used .if2 .left) (passed _ _ (held .before .held-in-table .ensures) (held .if3 .left))
+    (passed _ _ (differ .before .all-different .ensures) (differ .if4 .left)) (passed _ _ (rest .before .rest-zero .ensures) (rest .if5 .left))
+    (passed _ _ (seats .before .frames-seated .ensures) (seats .if6 .left)) (passed _ _ (c .before .before .table-only .ensures) (c .before .if7 .left))
 
 pub sound-spec : {M : Type 1} → statement M
 sound-spec =

@@ -31,7 +31,9 @@ loop-holds : tie.Need-loop-holds Inv-loop μ-loop Inv-frames μ-frames
 loop-holds c = (search needs, search needs, none-yet _)
 
 loop-again : tie.Need-loop-again Inv-loop μ-loop Inv-frames μ-frames
-loop-again c = (search needs, c .before .before .before .before .before .before .loop .inv .1, one-more _ _ (c .before .before .before .before .before .before .loop .inv .2) (ap not (ne-eqb _ _ (c .if1 .left))))
+loop-again c =
+    let v = c .before .before .before .before .before .before .loop .inv in
+    (search needs, v .1, one-more _ _ (v .2) (ap not (ne-eqb _ _ (c .if1 .left))))
 
 frames-again : tie.Need-frames-again Inv-loop μ-loop Inv-frames μ-frames
 frames-again c =
@@ -42,7 +44,9 @@ returns : tie.Need-returns Inv-loop μ-loop Inv-frames μ-frames
 returns c = c .before .frames .inv .1 ∙ all-passed _ _ _ (c .before .frames .inv .2) (search needs) (search needs)
 
 returns-2 : tie.Need-returns-2 Inv-loop μ-loop Inv-frames μ-frames
-returns-2 c = pair-equal (c .before .before .before .before .before .before .before .before .before .args .t1) _ _ (search needs) (search needs) (c .if1 .taken)
+returns-2 c =
+    let a = c .before .before .before .before .before .before .before .before .before .args in
+    pair-equal (a .t1) _ _ (search needs) (search needs) (c .if1 .taken)
 
 pub all-different-spec : {M : Type 1} → statement M
 all-different-spec =

@@ -21,7 +21,9 @@ loop-holds : tie.Need-loop-holds Inv-loop μ-loop
 loop-holds c = (search needs, none-yet _)
 
 returns : tie.Need-returns Inv-loop μ-loop
-returns c = fails _ (λ k. ltb (pageIn (c .before .before .before .before .before .args .t2) k .0) (c .before .before .before .before .before .args .ptl)) _ (search needs) (le-ltb _ _ (c .if1 .taken))
+returns c =
+    let a = c .before .before .before .before .before .args in
+    fails _ (λ k. ltb (pageIn (a .t2) k .0) (a .ptl)) _ (search needs) (le-ltb _ _ (c .if1 .taken))
 
 loop-again : tie.Need-loop-again Inv-loop μ-loop
 loop-again c = (search needs, one-more _ _ (c .before .before .before .before .loop .inv .1) (lt-ltb _ _ (c .if1 .left)))

@@ -20,10 +20,15 @@ loop-holds : tie.Need-loop-holds Inv-loop μ-loop
 loop-holds c = (search needs, search needs, zero-before (c .args .t1))
 
 returns : tie.Need-returns Inv-loop μ-loop
-returns c = fails 32 (λ k. zeroFrom (c .before .before .before .before .before .args .t1) k) _ (search needs) (zero-not (c .before .before .before .before .before .args .t1) _ (c .before .before .before .before .loop .inv .0) (c .if1 .taken))
+returns c =
+    let turn = c .before .before .before .before in
+    let b = turn .before .args .t1 in
+    fails 32 (λ k. zeroFrom b k) _ (search needs) (zero-not b _ (turn .loop .inv .0) (c .if1 .taken))
 
 loop-again : tie.Need-loop-again Inv-loop μ-loop
-loop-again c = (search needs, search needs, one-more _ _ (c .before .before .before .before .loop .inv .2) (zero-there (c .before .before .before .before .before .args .t1) _ (c .if1 .left)))
+loop-again c =
+    let turn = c .before .before .before .before in
+    (search needs, search needs, one-more _ _ (turn .loop .inv .2) (zero-there (turn .before .args .t1) _ (c .if1 .left)))
 
 returns-2 : tie.Need-returns-2 Inv-loop μ-loop
 returns-2 c = all-passed _ _ _ (c .before .loop .inv .2) (search needs) (search needs)

@@ -21,10 +21,11 @@ bring-entry-requires c κs = (
 
 returns : tie.Need-returns
 returns c =
-    let a = c .before .before .before .before .before .before .before .before .before .before .before .before .before .before .args in
-    into-steps (a .s) (a .main .now) (a .swap .now) (a .f) (a .y) _ (c .before .before .before .before .before .before .before .before .before .before .frame-at .ensures)
-    _ (c .before .before .before .before .before .before .before .before .before .before .before .swap-of .ensures) _ _
-    (c .before .before .before .before .before .before .copy-page .ensures) (c .before .before .bring-entry .ensures)
+    let copied = c .before .before .before .before .before .before in
+    let place = copied .before .before .before .before in
+    let a = place .before .before .before .before .args in
+    into-steps (a .s) (a .main .now) (a .swap .now) (a .f) (a .y) _ (place .frame-at .ensures) _ (place .before .swap-of .ensures) _ _
+    (copied .copy-page .ensures) (c .before .before .bring-entry .ensures)
 
 pub bring-in-spec : {M : Type 1} → statement M
 bring-in-spec =

@@ -14,10 +14,11 @@ copy-page-requires c κs = (
 
 returns : tie.Need-returns
 returns c =
-    let a = c .before .before .before .before .before .before .before .before .before .before .before .before .before .before .before .args in
-    out-steps (a .s) (a .main .now) (a .swap .now) (a .f) (a .x) _ (c .before .before .before .before .before .before .before .before .before .before .before .before .frame-at .ensures)
-    _ (c .before .before .before .before .before .before .before .before .before .before .before .swap-of .ensures) _ _
-    (c .before .before .before .before .before .before .copy-page .ensures) (c .before .before .put-out-entry .ensures)
+    let copied = c .before .before .before .before .before .before in
+    let place = copied .before .before .before .before .before in
+    let a = place .before .before .before .before .args in
+    out-steps (a .s) (a .main .now) (a .swap .now) (a .f) (a .x) _ (place .before .frame-at .ensures) _ (place .swap-of .ensures) _ _
+    (copied .copy-page .ensures) (c .before .before .put-out-entry .ensures)
 
 pub put-out-spec : {M : Type 1} → statement M
 put-out-spec =

@@ -9,7 +9,9 @@ returns : tie.Need-returns
 returns c = vacated-free _ _ _ (search needs)
 
 put-out-requires : tie.Need-put-out-requires
-put-out-requires c κs = (search needs, search needs, search needs, c .before .before .before .before .before .before .before .pre .leaves (search needs))
+put-out-requires c κs =
+    let start = c .before .before .before .before .before .before .before in
+    (search needs, search needs, search needs, start .pre .leaves (search needs))
 
 returns-2 : tie.Need-returns-2
 returns-2 c = c .before .before .before .before .put-out .ensures ∙ vacated-full _ _ _ (search needs)

@@ -26,16 +26,20 @@ entry-requires c κs = (search needs, ltb-true _ _ (every-at _ _ (c .before .bef
 
 returns : tie.Need-returns Inv-loop μ-loop
 returns c =
-    let a = c .before .before .before .before .before .before .before .before .before .before .args in
+    let here = c .before .before .before in
+    let a = here .before .before .before .before .before .before .before .args in
     fails _ (λ k. seated (a .s) (a .t2) (a .main .now) k) _ (search needs)
-    (failed _ _ (seat-test (a .s) (a .t2) (a .main .now) _ _ (c .before .before .before .before .before .entry .ensures) _ (c .before .before .before .before .ppx .ensures) _ (c .before .before .before .frame-at .ensures)) (c .if1 .taken))
+    (failed _ _ (seat-test (a .s) (a .t2) (a .main .now) _ _ (here .before .before .entry .ensures) _ (here .before .ppx .ensures) _
+    (here .frame-at .ensures)) (c .if1 .taken))
 
 loop-again : tie.Need-loop-again Inv-loop μ-loop
 loop-again c =
-    let a = c .before .before .before .before .before .before .before .before .before .before .args in (
+    let here = c .before .before .before in
+    let a = here .before .before .before .before .before .before .before .args in (
       search needs,
-      one-more _ _ (c .before .before .before .before .before .before .before .before .loop .inv .1)
-          (passed _ _ (seat-test (a .s) (a .t2) (a .main .now) _ _ (c .before .before .before .before .before .entry .ensures) _ (c .before .before .before .before .ppx .ensures) _ (c .before .before .before .frame-at .ensures)) (c .if1 .left)),
+      one-more _ _ (here .before .before .before .before .before .loop .inv .1)
+          (passed _ _ (seat-test (a .s) (a .t2) (a .main .now) _ _ (here .before .before .entry .ensures) _ (here .before .ppx .ensures) _
+          (here .frame-at .ensures)) (c .if1 .left)),
     )
 
 returns-2 : tie.Need-returns-2 Inv-loop μ-loop

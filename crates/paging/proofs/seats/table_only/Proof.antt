@@ -23,19 +23,21 @@ loop-holds c = (search needs, none-yet _)
 
 returns : tie.Need-returns Inv-loop μ-loop
 returns c =
-    let a = c .before .before .before .before .before .before .before .before .before .args in
+    let start = c .before .before .before .before .before .before .before .before .before in
+    let a = start .args in
     fails _ (λ k. entryRight (a .s) (a .b) (a .main .now) (virtual k)) _ (search needs)
-    (failed _ _ (right-here (a .s) (a .b) (a .main .now) _ _ (c .before .before .before .before .entry .ensures) (c .before .before .before .before .before .before .before .before .before .pre .2) (c .before .before .before .if2 .taken) _ (c .before .before .ppx .ensures) _ (c .before .holds .ensures))
-    (c .if3 .taken))
+    (failed _ _ (right-here (a .s) (a .b) (a .main .now) _ _ (c .before .before .before .before .entry .ensures) (start .pre .2)
+    (c .before .before .before .if2 .taken) _ (c .before .before .ppx .ensures) _ (c .before .holds .ensures)) (c .if3 .taken))
 
 loop-again : tie.Need-loop-again Inv-loop μ-loop
 loop-again c =
-    let a = c .before .before .before .before .before .before .args in
+    let start = c .before .before .before .before .before .before in
+    let a = start .args in
     let e = c .before .entry .ensures in (
       search needs,
       one-more _ _ (c .before .before .before .before .loop .inv .1)
           (⊎-elim
-          (λ w. passed _ _ (right-here (a .s) (a .b) (a .main .now) _ _ e (c .before .before .before .before .before .before .pre .2) (w .0 .taken) _ (w .1 .ensures) _ (w .2 .ensures)) (w .3 .left))
+          (λ w. passed _ _ (right-here (a .s) (a .b) (a .main .now) _ _ e (start .pre .2) (w .0 .taken) _ (w .1 .ensures) _ (w .2 .ensures)) (w .3 .left))
           (λ w. right-away (a .s) (a .b) (a .main .now) _ _ e (w .left))
           (c .if2 .came)),
     )

@@ -1,5 +1,5 @@
-use Rattle.paging.proofs.Ways.{has-write, has-read}
 -- `table::has`: bit 1, or bit 2.
+use Rattle.paging.proofs.Ways.{has-write, has-read}
 use Rattle.paging.proofs.table.has.Statement.{statement}
 use Rattle.paging.proofs.table.has.Tie as tie
 

@@ -19,9 +19,9 @@ returns-3 c =
 
 returns-4 : tie.Need-returns-4
 returns-4 c =
-    is-here _ _ _ _ _ (c .before .before .before .before .before .before .before .before .before .page-of .ensures) (search needs) _
-    (c .before .before .before .before .before .entry .ensures) _ (c .before .before .before .before .has .ensures)
-    (c .before .before .before .if2 .left) (search needs) _ (c .before .ppx .ensures) _ (c .main-at .ensures)
+    let right = c .before .before .before in
+    is-here _ _ _ _ _ (right .before .before .before .before .before .before .page-of .ensures) (search needs) _ (right .before .before .entry .ensures) _
+    (right .before .has .ensures) (right .if2 .left) (search needs) _ (c .before .ppx .ensures) _ (c .main-at .ensures)
 
 pub locate-spec : {M : Type 1} → statement M
 locate-spec =

@@ -1,0 +1,6 @@
+pub mod Parts
+pub mod Words
+pub mod Numbers
+pub mod Calls
+pub mod Views
+pub mod Refused

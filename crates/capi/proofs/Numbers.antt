@@ -1,0 +1,28 @@
+-- The words of an answer, by the answer's case.
+use mathlib.Core.Path.{_≡_}
+use mathlib.Core.List.{List, [], _∷_}
+use Prim.Native.Nat.{ℕ}
+use Rattle.model.specs.Answers.{stopNumber, stopDetail, refusalNumber, runNumbers, imageNumbers}
+use Rattle.model.specs.declared.Stop.{Stop}
+use Rattle.model.specs.declared.Refusal.{Refusal}
+use Rattle.model.specs.declared.RunAnswer.{RunAnswer}
+use Rattle.model.specs.declared.RunAnswer.the-variants.{Ran, NotRun}
+use Rattle.model.specs.declared.ImageAnswer.{ImageAnswer}
+use Rattle.model.specs.declared.ImageAnswer.the-variants.{Image, NotImage}
+use Rattle.capi.specs.Calls.{runWords, imageWords}
+
+pub ran : (a : RunAnswer) (s : Stop) (finished loads : ℕ) → a ≡ Ran s finished loads → (n : ℕ) → n ≡ stopNumber s → (d : ℕ) → d ≡ stopDetail s
+    → (w : List ℕ) → w ≡ n ∷ d ∷ finished ∷ loads ∷ [] → (0 ≡ runNumbers a .refused) × (w ≡ runWords (runNumbers a))
+ran a s finished loads e n en d ed w ew = (simp e, simp (e, ew, en, ed))
+
+pub not-run : (a : RunAnswer) (r : Refusal) → a ≡ NotRun r → (n : ℕ) → n ≡ refusalNumber r
+    → (w : List ℕ) → w ≡ 0 ∷ 0 ∷ 0 ∷ 0 ∷ [] → (n ≡ runNumbers a .refused) × (w ≡ runWords (runNumbers a))
+not-run a r e n en w ew = (simp (e, en), simp (e, ew))
+
+pub image : (a : ImageAnswer) (ptl start frames : ℕ) → a ≡ Image ptl start frames
+    → (w : List ℕ) → w ≡ ptl ∷ start ∷ frames ∷ [] → (0 ≡ imageNumbers a .refused) × (w ≡ imageWords (imageNumbers a))
+image a ptl start frames e w ew = (simp e, simp (e, ew))
+
+pub not-image : (a : ImageAnswer) (r : Refusal) → a ≡ NotImage r → (n : ℕ) → n ≡ refusalNumber r
+    → (w : List ℕ) → w ≡ 0 ∷ 0 ∷ 0 ∷ [] → (n ≡ imageNumbers a .refused) × (w ≡ imageWords (imageNumbers a))
+not-image a r e n en w ew = (simp (e, en), simp (e, ew))

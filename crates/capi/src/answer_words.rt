@@ -1,0 +1,69 @@
+// An answer as words in a lent slice, by this paper's numbers.
+use model::ImageAnswer;
+use model::RunAnswer;
+ghost use mathlib.Core.Path.{_≡_};
+ghost use mathlib.Core.List.{[], _∷_};
+ghost use lib.ListN.{length};
+ghost use Rattle.model.specs.Answers as numbers;
+ghost use Rattle.capi.specs.Calls.{runWords, imageWords};
+
+fn put_four(answer: &mut [u32], stop: u32, detail: u32, finished: u32, loads: u32)
+    requires { ⌜ length (now answer) ≡ 4 ⌝ }
+    ensures { λ _. ⌜ now (answer .exit) ≡ stop ∷ detail ∷ finished ∷ loads ∷ [] ⌝ }
+{
+    answer[0] = stop;
+    answer[1] = detail;
+    answer[2] = finished;
+    answer[3] = loads;
+}
+
+pub(crate) fn put_run(answer: &mut [u32], a: RunAnswer) -> u32
+    requires { ⌜ length (now answer) ≡ 4 ⌝ }
+    ensures { λ r. ⌜ (r ≡ numbers.runNumbers a .refused) × (now (answer .exit) ≡ runWords (numbers.runNumbers a)) ⌝ }
+{
+    match a {
+        RunAnswer::Ran {
+            stop,
+            finished,
+            loads,
+        } => {
+            put_four(
+                answer,
+                answers::stop_number(stop),
+                answers::stop_detail(stop),
+                finished,
+                loads,
+            );
+            0
+        }
+        RunAnswer::NotRun(r) => {
+            put_four(answer, 0, 0, 0, 0);
+            answers::refusal_number(r)
+        }
+    }
+}
+
+fn put_three(answer: &mut [u32], ptl: u32, start: u32, frames: u32)
+    requires { ⌜ length (now answer) ≡ 3 ⌝ }
+    ensures { λ _. ⌜ now (answer .exit) ≡ ptl ∷ start ∷ frames ∷ [] ⌝ }
+{
+    answer[0] = ptl;
+    answer[1] = start;
+    answer[2] = frames;
+}
+
+pub(crate) fn put_image(answer: &mut [u32], a: ImageAnswer) -> u32
+    requires { ⌜ length (now answer) ≡ 3 ⌝ }
+    ensures { λ r. ⌜ (r ≡ numbers.imageNumbers a .refused) × (now (answer .exit) ≡ imageWords (numbers.imageNumbers a)) ⌝ }
+{
+    match a {
+        ImageAnswer::Image { ptl, start, frames } => {
+            put_three(answer, ptl, start, frames);
+            0
+        }
+        ImageAnswer::NotImage(r) => {
+            put_three(answer, 0, 0, 0);
+            answers::refusal_number(r)
+        }
+    }
+}

@@ -1,0 +1,152 @@
+// The calls for hosts in C and Rust, on numbers and lent slices only: brenwythal.h says what each does. A record is 74 words. None
+// asks anything of its caller, and each names its complete outcome.
+mod answer_words;
+mod layout;
+
+use model::VirtualPage;
+ghost use mathlib.Core.Path.{_≡_};
+ghost use Rattle.capi.specs.Calls as calls;
+
+// The words of a record, and the bytes of a page.
+const RECORD: usize = 74;
+
+const PAGE: usize = 4096;
+
+// Loads a console image into lent memories and writes the record of a fresh machine.
+#[no_mangle]
+pub extern "C" fn brenwythal_load(
+    file: &[u8],
+    main: &mut [u8],
+    swap: &mut [u8],
+    words: &mut [u32],
+) -> u32
+    ensures { λ r. ⌜ record { refused = r; words = now (words .exit); main = now (main .exit); swap = now (swap .exit) }
+        ≡ calls.load (now (file .entry)) (now (main .entry)) (now (swap .entry)) (now (words .entry)) ⌝ }
+{
+    if words.len() != RECORD {
+        return 1;
+    }
+    let h = image::load(file, main, swap);
+    let m = h.machine;
+    let v = h.verdict;
+    layout::put_machine(words, m);
+    answers::verdict_number(v)
+}
+
+// Runs at most `limit` instructions. The answer: stop, detail, finished, loads.
+#[no_mangle]
+pub extern "C" fn brenwythal_run(
+    words: &mut [u32],
+    main: &mut [u8],
+    swap: &mut [u8],
+    limit: u32,
+    answer: &mut [u32],
+) -> u32
+    ensures { λ r. ⌜ record { refused = r; words = now (words .exit); main = now (main .exit); swap = now (swap .exit); answer = now (answer .exit) }
+        ≡ calls.run (now (words .entry)) (now (main .entry)) (now (swap .entry)) limit (now (answer .entry)) ⌝ }
+{
+    if words.len() != RECORD {
+        return 1;
+    }
+    if answer.len() != 4 {
+        return 1;
+    }
+    let r = machine::run(layout::machine_of(words), main, swap, limit);
+    let m = r.machine;
+    let a = r.answer;
+    layout::put_machine(words, m);
+    answer_words::put_run(answer, a)
+}
+
+// "Host read fills a lent buffer".
+#[no_mangle]
+pub extern "C" fn brenwythal_read(
+    words: &[u32],
+    main: &[u8],
+    swap: &[u8],
+    va: u32,
+    into: &mut [u8],
+) -> u32
+    ensures { λ r. ⌜ record { refused = r; buffer = now (into .exit) }
+        ≡ calls.read (now (words .entry)) (now (main .entry)) (now (swap .entry)) va (now (into .entry)) ⌝ }
+{
+    if words.len() != RECORD {
+        return 1;
+    }
+    answers::verdict_number(machine::host_read(layout::machine_of(words), main, swap, va, into))
+}
+
+// "host write takes one".
+#[no_mangle]
+pub extern "C" fn brenwythal_write(
+    words: &mut [u32],
+    main: &mut [u8],
+    swap: &mut [u8],
+    va: u32,
+    from: &[u8],
+) -> u32
+    ensures { λ r. ⌜ record { refused = r; words = now (words .exit); main = now (main .exit); swap = now (swap .exit) }
+        ≡ calls.write (now (words .entry)) (now (main .entry)) (now (swap .entry)) va (now (from .entry)) ⌝ }
+{
+    if words.len() != RECORD {
+        return 1;
+    }
+    let h = machine::host_write(layout::machine_of(words), main, swap, va, from);
+    let m = h.machine;
+    let v = h.verdict;
+    layout::put_machine(words, m);
+    answers::verdict_number(v)
+}
+
+// The page view, copied into a buffer of 4096 bytes. The verdict is asked for by name only where the part is empty.
+#[no_mangle]
+pub extern "C" fn brenwythal_view<'a>(
+    words: &[u32],
+    main: &'a [u8],
+    swap: &'a [u8],
+    page: u32,
+    into: &mut [u8],
+) -> u32
+    ensures { λ r. ⌜ record { refused = r; buffer = now (into .exit) }
+        ≡ calls.view (now (words .entry)) (now (main .entry)) (now (swap .entry)) page (now (into .entry)) ⌝ }
+{
+    if words.len() != RECORD {
+        return 1;
+    }
+    if into.len() != PAGE {
+        return 1;
+    }
+    let m = layout::machine_of(words);
+    let part = machine::page_view(m, main, swap, VirtualPage(page));
+    if part.len() < PAGE {
+        return answers::verdict_number(machine::view_answer(m, main, swap, VirtualPage(page)));
+    }
+    words::copy_page(part, 0, into, 0);
+    0
+}
+
+// "Reply sets one of GPR 1 to 31."
+#[no_mangle]
+pub extern "C" fn brenwythal_reply(words: &mut [u32], register: u32, value: u32) -> u32
+    ensures { λ r. ⌜ record { refused = r; words = now (words .exit) } ≡ calls.reply (now (words .entry)) register value ⌝ }
+{
+    if words.len() != RECORD {
+        return 1;
+    }
+    let h = machine::reply(layout::machine_of(words), register, value);
+    let m = h.machine;
+    let v = h.verdict;
+    layout::put_machine(words, m);
+    answers::verdict_number(v)
+}
+
+// Reads a console image. The answer: "ptl, start and frames as written".
+#[no_mangle]
+pub extern "C" fn brenwythal_image(file: &[u8], answer: &mut [u32]) -> u32
+    ensures { λ r. ⌜ record { refused = r; answer = now (answer .exit) } ≡ calls.image (now (file .entry)) (now (answer .entry)) ⌝ }
+{
+    if answer.len() != 3 {
+        return 1;
+    }
+    answer_words::put_image(answer, image::read(file))
+}

@@ -1,0 +1,36 @@
+//! The command line, for any second engine.
+use crate::{compare, generate::Generator, Engine, Peer};
+use std::io::{self, Read, Write};
+use std::time::Instant;
+
+/// `[seed] [calls]` compares the peer with `second`; `console` prints what the console program should print
+/// for standard input; `image <seed>` writes a small image, good or damaged, to standard output.
+pub fn cli(second: &mut dyn Engine) -> io::Result<()> {
+    let args: Vec<String> = std::env::args().skip(1).collect();
+    let number = |i: usize, default: u64| args.get(i).and_then(|arg| arg.parse().ok()).unwrap_or(default);
+    match args.first().map(String::as_str) {
+        Some("console") => {
+            let mut input = Vec::new();
+            io::stdin().lock().read_to_end(&mut input)?;
+            print!("{}", peer::console(&input));
+        }
+        Some("image") => {
+            let seed = number(1, 1);
+            let mut generator = Generator::new(seed, 0);
+            let image = generator.image(1 + (seed / 2 % 5) as u32);
+            let image = if seed % 2 == 0 { image } else { generator.damaged(image) };
+            io::stdout().write_all(&image.bytes())?;
+        }
+        _ => {
+            let start = Instant::now();
+            match compare(number(0, 1), number(1, 200_000), &mut Peer, second) {
+                Ok(stats) => println!("{stats:?}\nin {:?}", start.elapsed()),
+                Err(failure) => {
+                    println!("{failure}");
+                    std::process::exit(1);
+                }
+            }
+        }
+    }
+    Ok(())
+}

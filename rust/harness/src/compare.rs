@@ -1,0 +1,154 @@
+//! Plays series of calls on two engines and compares everything after each call.
+use crate::call::{shorter, word_name, Answer, Call};
+use crate::engine::{Engine, State};
+use crate::generate::Generator;
+use std::fmt;
+use std::panic::{catch_unwind, AssertUnwindSafe};
+
+/// How much was compared.
+#[derive(Clone, Debug, Default, PartialEq, Eq)]
+pub struct Stats {
+    pub calls: u64,
+    pub series: u64,
+    /// Calls answered without refusal, then calls refused 1 to 7.
+    pub refusals: [u64; 8],
+    /// Runs by their stop.
+    pub stops: [u64; 5],
+    pub finished: u64,
+    pub loads: u64,
+}
+
+/// A difference, with the smallest series found that shows it.
+pub struct Failure {
+    pub seed: u64,
+    pub series: u64,
+    pub what: String,
+    pub calls: Vec<Call>,
+}
+
+/// Compares the engines on at least this many calls (the last series is played to its end).
+pub fn compare(seed: u64, calls: u64, a: &mut dyn Engine, b: &mut dyn Engine) -> Result<Stats, Failure> {
+    let mut stats = Stats::default();
+    while stats.calls < calls {
+        let series = stats.series;
+        let mut generator = Generator::new(seed, series);
+        let mut pair = Pair { a, b, left: State::default(), right: State::default() };
+        let mut played = Vec::new();
+        let mut last = Answer::Nothing;
+        for _ in 0..40 {
+            played.push(generator.next(&pair.left, &last));
+            match pair.step(&played[played.len() - 1]) {
+                Ok(answer) => last = answer,
+                Err(what) => {
+                    let (calls, what) = shrink(&mut pair, played, what);
+                    return Err(Failure { seed, series, what, calls });
+                }
+            }
+            stats.count(&last);
+        }
+        stats.series += 1;
+    }
+    Ok(stats)
+}
+
+struct Pair<'e> {
+    a: &'e mut dyn Engine,
+    b: &'e mut dyn Engine,
+    left: State,
+    right: State,
+}
+
+impl Pair<'_> {
+    /// One call on both; the common answer, or the first difference.
+    fn step(&mut self, call: &Call) -> Result<Answer, String> {
+        let play = |engine: &mut dyn Engine, state: &mut State| {
+            let caught = catch_unwind(AssertUnwindSafe(|| call.apply(engine, state)));
+            caught.map_err(|_| "an engine panicked".to_string())
+        };
+        let left = play(self.a, &mut self.left)?;
+        let right = play(self.b, &mut self.right)?;
+        if left != right {
+            return Err(format!("answers differ: {left:02x?} and {right:02x?}"));
+        }
+        let mut words = (0..).zip(self.left.words.iter().zip(&self.right.words));
+        if let Some((index, (x, y))) = words.find(|(_, (x, y))| x != y) {
+            return Err(format!("{} differs: {x:#x} and {y:#x}", word_name(index)));
+        }
+        differ("main", &self.left.main, &self.right.main)?;
+        differ("swap", &self.left.swap, &self.right.swap)?;
+        Ok(left)
+    }
+
+    /// Plays a series from nothing; its first difference and the number of calls up to it.
+    fn play(&mut self, calls: &[Call]) -> Option<(usize, String)> {
+        (self.left, self.right) = (State::default(), State::default());
+        (1..).zip(calls).find_map(|(count, call)| self.step(call).err().map(|what| (count, what)))
+    }
+}
+
+fn differ(name: &str, left: &[u8], right: &[u8]) -> Result<(), String> {
+    if left == right {
+        return Ok(());
+    }
+    let at = left.iter().zip(right).position(|(x, y)| x != y).unwrap_or(left.len().min(right.len()));
+    Err(format!("{name} differs at {at:#x}: {:02x?} and {:02x?}", left.get(at), right.get(at)))
+}
+
+/// Takes calls away and makes calls smaller, as long as some difference stays and for a bounded time.
+fn shrink(pair: &mut Pair, mut calls: Vec<Call>, mut what: String) -> (Vec<Call>, String) {
+    let mut candidates = smaller(&calls);
+    let (mut next, mut fruitless, mut plays) = (0, 0, 0);
+    while fruitless < candidates.len() && plays < 5000 {
+        plays += 1;
+        let candidate = &candidates[next % candidates.len()];
+        if let Some((count, difference)) = pair.play(candidate) {
+            (calls, what, fruitless) = (candidate[..count].to_vec(), difference, 0);
+            candidates = smaller(&calls);
+        } else {
+            next += 1;
+            fruitless += 1;
+        }
+    }
+    (calls, what)
+}
+
+/// The series that are one reduction smaller.
+fn smaller(calls: &[Call]) -> Vec<Vec<Call>> {
+    let mut list = shorter(calls);
+    for (i, call) in calls.iter().enumerate() {
+        let changed = |less| [&calls[..i], &[less], &calls[i + 1..]].concat();
+        list.extend(call.simpler().into_iter().map(changed));
+    }
+    list
+}
+
+impl Stats {
+    fn count(&mut self, answer: &Answer) {
+        self.calls += 1;
+        let refusal = match answer {
+            Answer::Nothing => return,
+            Answer::Code(refusal) | Answer::Bytes(refusal, _) => *refusal,
+            Answer::Image(image) => image.refusal,
+            Answer::Ran(ran) => ran[0],
+        };
+        self.refusals[refusal as usize] += 1;
+        if let Answer::Ran([0, stop, _, finished, loads]) = *answer {
+            self.stops[stop as usize] += 1;
+            self.finished += u64::from(finished);
+            self.loads += u64::from(loads);
+        }
+    }
+}
+
+impl fmt::Display for Failure {
+    fn fmt(&self, f: &mut fmt::Formatter) -> fmt::Result {
+        writeln!(f, "{} (seed {}, series {}), after:", self.what, self.seed, self.series)?;
+        (0..).zip(&self.calls).try_for_each(|(i, call): (usize, _)| writeln!(f, "  {i}: {call}"))
+    }
+}
+
+impl fmt::Debug for Failure {
+    fn fmt(&self, f: &mut fmt::Formatter) -> fmt::Result {
+        fmt::Display::fmt(self, f)
+    }
+}

@@ -1,0 +1,14 @@
+//! Compares engines for the machine of document 01 on generated series of calls.
+#![forbid(unsafe_code)]
+
+pub mod call;
+mod cli;
+pub mod compare;
+pub mod engine;
+pub mod generate;
+pub mod program;
+pub mod rng;
+
+pub use cli::cli;
+pub use compare::{compare, Failure, Stats};
+pub use engine::{place_of, Engine, ImageAnswer, Peer, State};

@@ -1,0 +1,49 @@
+//! The paged DLX console machine of document 01, in plain safe Rust.
+//!
+//! It is written from the document alone and is the independent reading against which another
+//! implementation is compared, and the baseline of its benchmarks. Quoted sentences are the document's.
+#![forbid(unsafe_code)]
+
+mod cpu;
+mod host;
+mod image;
+mod paging;
+mod record;
+
+pub use cpu::{run, Ran};
+pub use host::{host_read, host_write, page_view, reply};
+pub use image::{console, load, read_image, ImageInfo};
+pub use record::{Record, WORDS};
+
+/// K, the page size.
+pub const PAGE: usize = 4096;
+/// The most instructions that one run may be asked for.
+pub const MAX_RUN: u32 = 1_000_000;
+/// The most bytes that one host transfer may have.
+pub const MAX_TRANSFER: usize = 256;
+
+/// The refusals, numbered as in the document's table.
+pub mod refusal {
+    pub const SHAPE: u32 = 1;
+    pub const UNSOUND: u32 = 2;
+    pub const ACCESS: u32 = 3;
+    pub const RANGE: u32 = 4;
+    pub const NO_IMAGE: u32 = 5;
+    pub const TRAILER: u32 = 6;
+    pub const ROOM: u32 = 7;
+}
+
+/// The stops of a run.
+pub mod stop {
+    pub const LIMIT: u32 = 0;
+    pub const TRAP: u32 = 1;
+    pub const ILLEGAL_MEMORY: u32 = 2;
+    pub const MISALIGNED: u32 = 3;
+    pub const ILLEGAL_INSTRUCTION: u32 = 4;
+}
+
+/// The little endian word that stands at byte `at`.
+fn word_at(bytes: &[u8], at: usize) -> u32 {
+    let word = &bytes[at..at + 4];
+    u32::from_le_bytes([word[0], word[1], word[2], word[3]])
+}

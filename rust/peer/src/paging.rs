@@ -1,0 +1,146 @@
+//! The three page numbers, the table, and the handler.
+use crate::{word_at, Record, PAGE};
+use std::ops::Range;
+
+/// A page of the guest's addresses.
+#[derive(Clone, Copy, Debug, PartialEq, Eq)]
+pub(crate) struct VirtualPage(pub u32);
+
+/// A page of main memory.
+#[derive(Clone, Copy, Debug, PartialEq, Eq)]
+pub(crate) struct MainPage(pub u32);
+
+/// A page of swap memory.
+#[derive(Clone, Copy, Debug, PartialEq, Eq)]
+pub(crate) struct SwapPage(pub u32);
+
+impl VirtualPage {
+    pub fn of(va: u32) -> Self {
+        VirtualPage(va / PAGE as u32)
+    }
+}
+
+impl MainPage {
+    pub fn bytes(self) -> Range<usize> {
+        let start = self.0 as usize * PAGE;
+        start..start + PAGE
+    }
+}
+
+impl SwapPage {
+    pub fn bytes(self) -> Range<usize> {
+        let start = self.0 as usize * PAGE;
+        start..start + PAGE
+    }
+}
+
+#[derive(Clone, Copy)]
+pub(crate) enum Access {
+    Read,
+    Write,
+}
+
+/// A table entry: "bits 31–12 ppx, bit 2 r, bit 1 w, bit 0 v".
+#[derive(Clone, Copy)]
+pub(crate) struct Entry(pub u32);
+
+impl Entry {
+    pub fn ppx(self) -> MainPage {
+        MainPage(self.0 >> 12)
+    }
+
+    pub fn is_valid(self) -> bool {
+        self.0 & 1 != 0
+    }
+
+    fn allows(self, access: Access) -> bool {
+        match access {
+            Access::Read => self.0 & 4 != 0,
+            Access::Write => self.0 & 2 != 0,
+        }
+    }
+
+    /// The same rights, not valid, all else 0.
+    fn absent(self) -> Self {
+        Entry(self.0 & 6)
+    }
+
+    /// The same rights, valid, in `frame`.
+    fn resident(self, frame: MainPage) -> Self {
+        Entry(frame.0 << 12 | self.0 & 6 | 1)
+    }
+}
+
+/// Where a page that may be accessed stands.
+pub(crate) enum Place {
+    Main(MainPage),
+    Swap(SwapPage),
+}
+
+impl Record {
+    fn entry_at(&self, x: VirtualPage) -> usize {
+        (self.pto + 4 * x.0) as usize
+    }
+
+    fn swap_page(&self, x: VirtualPage) -> SwapPage {
+        SwapPage(self.sbase + x.0)
+    }
+
+    fn frame(&self, f: u32) -> MainPage {
+        MainPage(self.abase + f)
+    }
+
+    /// The entry of page x, if the table covers it.
+    pub(crate) fn entry(&self, main: &[u8], x: VirtualPage) -> Option<Entry> {
+        (x.0 < self.ptl).then(|| Entry(word_at(main, self.entry_at(x))))
+    }
+
+    /// The place of page x, or none if the access is illegal.
+    pub(crate) fn place(&self, main: &[u8], x: VirtualPage, access: Access) -> Option<Place> {
+        match self.entry(main, x) {
+            Some(entry) if !entry.allows(access) => None,
+            Some(entry) if entry.is_valid() => Some(Place::Main(entry.ppx())),
+            Some(_) => Some(Place::Swap(self.swap_page(x))),
+            None => None,
+        }
+    }
+}
+
+/// A checked machine and its lent memories.
+pub(crate) struct Machine<'m> {
+    pub rec: &'m mut Record,
+    pub main: &'m mut [u8],
+    pub swap: &'m mut [u8],
+}
+
+impl Machine<'_> {
+    /// "The handler loads page y."
+    pub fn load_page(&mut self, y: VirtualPage) {
+        let f = self.empty_frame();
+        let frame = self.rec.frame(f);
+        self.main[frame.bytes()].copy_from_slice(&self.swap[self.rec.swap_page(y).bytes()]);
+        self.rec.book[f as usize] = y.0;
+        self.change_entry(y, |entry| entry.resident(frame));
+    }
+
+    /// A frame for the next page: an unused one, else the one at the hand, whose page leaves.
+    fn empty_frame(&mut self) -> u32 {
+        let rec = &mut *self.rec;
+        if rec.b < rec.a {
+            rec.b += 1;
+            return rec.b - 1;
+        }
+        let f = rec.hand;
+        rec.hand = (f + 1) % rec.a;
+        let x = VirtualPage(rec.book[f as usize]);
+        self.swap[rec.swap_page(x).bytes()].copy_from_slice(&self.main[rec.frame(f).bytes()]);
+        self.change_entry(x, Entry::absent);
+        f
+    }
+
+    fn change_entry(&mut self, x: VirtualPage, change: impl Fn(Entry) -> Entry) {
+        let at = self.rec.entry_at(x);
+        let Entry(word) = change(Entry(word_at(self.main, at)));
+        self.main[at..at + 4].copy_from_slice(&word.to_le_bytes());
+    }
+}

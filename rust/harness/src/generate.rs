@@ -267,18 +267,18 @@ impl Generator {
         let last = abase.wrapping_mul(4096).wrapping_sub(table);
         let mut shape = [p, a, abase, ptl, pto, sbase];
         let index = rng.below(6) as usize;
-        let bounds: &[u32] = match index {
-            0 => &[2, 3, 64, 65],
-            1 => &[1, 2, 32, 33, p.wrapping_sub(abase), p.wrapping_sub(abase).wrapping_add(1)],
-            2 => &[1, p.wrapping_sub(a), p.wrapping_sub(a).wrapping_add(1), 0u32.wrapping_sub(a)],
-            3 => &[1, 1024, 1025, 0x4000_0000, 0x4000_0001],
-            4 => &[last, last.wrapping_add(4), 0u32.wrapping_sub(table), pto.wrapping_add(2), 0xFFFF_FFFC],
-            _ => &[16, 17, 0u32.wrapping_sub(ptl)],
+        let bounds: Vec<u32> = match index {
+            0 => vec![2, 3, 64, 65],
+            1 => vec![1, 2, 32, 33, p.wrapping_sub(abase), p.wrapping_sub(abase).wrapping_add(1)],
+            2 => vec![1, p.wrapping_sub(a), p.wrapping_sub(a).wrapping_add(1), 0u32.wrapping_sub(a)],
+            3 => vec![1, 1024, 1025, 0x4000_0000, 0x4000_0001],
+            4 => vec![last, last.wrapping_add(4), 0u32.wrapping_sub(table), pto.wrapping_add(2), 0xFFFF_FFFC],
+            _ => vec![16, 17, 0u32.wrapping_sub(ptl)],
         };
         let now = shape[index];
         shape[index] = match rng.below(3) {
             0 => rng.pick(&[now.wrapping_add(1), now.wrapping_sub(1), 0, u32::MAX]),
-            _ => rng.pick(bounds),
+            _ => rng.pick(&bounds),
         };
         let mut edits = vec![Edit::Word(index, shape[index])];
         if rng.one_in(2) {

@@ -49,7 +49,7 @@ pub fn load(image: &[u8], main: &mut [u8], swap: &mut [u8]) -> Result<Record, u3
     let info = read_image(image)?;
     let frames = if info.frames == 0 { 2 } else { info.frames };
     let p = main.len() / PAGE;
-    let main_fits = main.len().is_multiple_of(PAGE) && (3..=64).contains(&p) && p > frames as usize;
+    let main_fits = main.len() == PAGE * p && (3..=64).contains(&p) && p > frames as usize;
     if !main_fits || swap.len() != info.pages.len() {
         return Err(refusal::ROOM);
     }

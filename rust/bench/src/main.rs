@@ -1,0 +1,144 @@
+//! Times the proved library beside the same machine in plain Rust (`peer`) and in C: `bench [rounds]`. The
+//! contenders take turns in each round; a figure is the median over the rounds. It prints tables, and writes
+//! no file.
+#![deny(unsafe_code)]
+
+#[allow(unsafe_code)]
+mod contenders;
+mod guests;
+
+use contenders::{contenders, cpu_time, hosts, Contender, Entry, Host};
+use guests::{fresh, guests, Guest};
+use harness::State;
+use peer::PAGE;
+
+/// The instructions of a timed run, and how often a timed call is made.
+const RUN: u32 = 1_000_000;
+const CALLS: u32 = 20_000;
+
+fn main() {
+    let rounds = std::env::args().nth(1).and_then(|word| word.parse().ok()).unwrap_or(15).max(1);
+    runs(rounds);
+    println!();
+    calls(rounds);
+}
+
+/// The guests.
+fn runs(rounds: usize) {
+    let contenders = contenders();
+    heading("guest, ns an instruction", &contenders, " loads an instruction |");
+    for guest in guests() {
+        agree(&guest, &contenders);
+        let mut loads = 0;
+        let times = medians(rounds, &contenders, |make| {
+            let mut machine = make(fresh(&guest));
+            let begin = cpu_time();
+            let answer = machine.run(RUN);
+            let time = cpu_time() - begin;
+            assert_eq!(answer[..3], [0, 0, RUN]);
+            loads = answer[3];
+            time / f64::from(RUN)
+        });
+        row(guest.name, &times, &format!(" {:.2} |", f64::from(loads) / f64::from(RUN)));
+    }
+}
+
+/// One call of each kind. All but the reply check that the machine is sound, which is all that a run of no
+/// instruction does.
+fn calls(rounds: usize) {
+    let hosts = hosts();
+    heading("one call, ns", &hosts, "");
+    let time_of = |name: &'static str, ptl: u32, call: &dyn Fn(&mut dyn Host)| {
+        let guest = Guest { name, frames: 4, ptl, code: Vec::new() };
+        // A call through `dyn` is a real call: nothing of it can be left out or taken together.
+        let times = medians(rounds, &hosts, |make| {
+            let mut host = make(full(&guest));
+            let begin = cpu_time();
+            (0..CALLS).for_each(|_| call(&mut *host));
+            (cpu_time() - begin) / f64::from(CALLS)
+        });
+        row(name, &times, "");
+    };
+    let run = |host: &mut dyn Host| assert_eq!(host.run(0), [0; 4]);
+    time_of("run of 0 instructions, ptl 4", 4, &run);
+    time_of("run of 0 instructions, ptl 64", 64, &run);
+    time_of("run of 0 instructions, ptl 1024", 1024, &run);
+    time_of("read of 3 bytes, ptl 4", 4, &read::<3>);
+    time_of("read of 3 bytes, ptl 1024", 1024, &read::<3>);
+    time_of("read of 256 bytes, ptl 4", 4, &read::<256>);
+    time_of("write of 3 bytes, ptl 4", 4, &write::<3>);
+    time_of("write of 256 bytes, ptl 4", 4, &write::<256>);
+    time_of("view, ptl 4", 4, &|host| {
+        let mut into = [0; PAGE];
+        host.view(1, &mut into);
+    });
+    time_of("reply", 4, &|host| host.reply(1, 7));
+}
+
+/// Reads across the border of pages 0 and 1.
+fn read<const LENGTH: usize>(host: &mut dyn Host) {
+    let mut into = [0; LENGTH];
+    host.read(4095, &mut into);
+}
+
+/// Writes across the border of pages 0 and 1.
+fn write<const LENGTH: usize>(host: &mut dyn Host) {
+    host.write(4095, &[7; LENGTH]);
+}
+
+/// A machine whose frames hold the first pages.
+fn full(guest: &Guest) -> State {
+    let mut state = fresh(guest);
+    state.words[6] = guest.frames;
+    for (frame, entry) in (0..guest.frames).zip(state.main.chunks_exact_mut(4)) {
+        entry.copy_from_slice(&((1 + frame) << 12 | 7).to_le_bytes());
+        state.words[8 + frame as usize] = frame;
+    }
+    state
+}
+
+/// Every contender must answer the same and leave the same machine, after runs of several lengths.
+fn agree(guest: &Guest, contenders: &[Entry<dyn Contender>]) {
+    for limit in [0, 1, 2, 3, 5, 17, 1000, 40_000] {
+        let outcome = |(_, make): &Entry<dyn Contender>| {
+            let mut machine = make(fresh(guest));
+            (machine.run(limit), machine.state())
+        };
+        let first = outcome(&contenders[0]);
+        for contender in &contenders[1..] {
+            assert!(outcome(contender) == first, "{} differs on {} after {limit}", contender.0, guest.name);
+        }
+    }
+}
+
+/// The median time of each contender.
+fn medians<M: ?Sized>(
+    rounds: usize,
+    contenders: &[Entry<M>],
+    mut time: impl FnMut(fn(State) -> Box<M>) -> f64,
+) -> Vec<f64> {
+    let mut times = vec![Vec::new(); contenders.len()];
+    for _ in 0..rounds {
+        for (times, (_, make)) in times.iter_mut().zip(contenders) {
+            times.push(time(*make));
+        }
+    }
+    let median = |mut times: Vec<f64>| {
+        times.sort_by(f64::total_cmp);
+        times[times.len() / 2]
+    };
+    times.into_iter().map(median).collect()
+}
+
+fn heading<M: ?Sized>(what: &str, contenders: &[Entry<M>], more: &str) {
+    let names: String = contenders.iter().map(|(name, _)| format!(" {name} |")).collect();
+    let ratios: String = contenders[1..].iter().map(|(name, _)| format!(" proved / {name} |")).collect();
+    let head = format!("| {what} |{names}{ratios}{more}");
+    println!("{head}\n|{}", "---|".repeat(head.matches('|').count() - 1));
+}
+
+fn row(name: &str, times: &[f64], more: &str) {
+    let figures: String = times.iter().map(|time| format!(" {time:.2} |")).collect();
+    let ratios: String = times[1..].iter().map(|time| format!(" {:.2} |", times[0] / time)).collect();
+    println!("| {name} |{figures}{ratios}{more}");
+}

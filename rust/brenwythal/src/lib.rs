@@ -1,0 +1,210 @@
+//! The proved paged console machine, for hosts in Rust.
+//!
+//! [`Machine`] owns a machine's record and both of its memories and asks the library of brenwythal.h for
+//! everything that it does; this crate adds types, and no rule of its own. [`calls`] has the same calls on
+//! lent slices.
+//!
+//! ```no_run
+//! use brenwythal::{image, Machine, Stop};
+//! let file = std::fs::read("depot.img")?;
+//! let mut machine = Machine::load(&file, image(&file)?.least_main_pages())?;
+//! let ran = machine.run(1000)?;
+//! if let Stop::Trap(number) = ran.stop {
+//!     println!("trap {number} after {} instructions and {} page loads", ran.finished, ran.loads);
+//!     machine.write(4095, b"7,5")?;
+//!     machine.reply(1, 0)?;
+//! }
+//! # Ok::<(), Box<dyn std::error::Error>>(())
+//! ```
+#![deny(unsafe_code)]
+#![warn(missing_docs)]
+
+pub mod calls;
+mod error;
+
+pub use error::Error;
+
+/// The length of a page in bytes.
+pub const PAGE: usize = 4096;
+/// The length of a record in words: P, a, abase, ptl, pto, sbase, b, hand, B[0..31], GPR 0 to 31, DPC, PC'.
+pub const RECORD: usize = 74;
+
+const GPR: usize = 40;
+const DPC: usize = 72;
+/// One page more than a main memory may have.
+const TOO_MANY: usize = 65;
+
+/// The numbers of a console image.
+#[derive(Clone, Copy, Debug, PartialEq, Eq)]
+pub struct Image {
+    /// The pages of the guest.
+    pub ptl: u32,
+    /// The address of the first instruction.
+    pub start: u32,
+    /// Frames as written, where 0 means 2.
+    pub frames: u32,
+}
+
+impl Image {
+    /// The fewest pages of main memory that loading takes.
+    pub fn least_main_pages(&self) -> usize {
+        1 + if self.frames == 0 { 2 } else { self.frames as usize }
+    }
+}
+
+/// Reads a console image. It can be refused 5 and 6.
+pub fn image(file: &[u8]) -> Result<Image, Error> {
+    let mut answer = [0; 3];
+    Error::check(calls::image(file, &mut answer))?;
+    let [ptl, start, frames] = answer;
+    Ok(Image { ptl, start, frames })
+}
+
+/// Why a run ended. After the last three the registers are as before that instruction.
+#[derive(Clone, Copy, Debug, PartialEq, Eq)]
+pub enum Stop {
+    /// The limit is used up.
+    Limit,
+    /// A trap, which is finished; its number.
+    Trap(u32),
+    /// Illegal memory; the virtual address.
+    Memory(u32),
+    /// A misaligned access; the virtual address.
+    Misaligned(u32),
+    /// An illegal instruction; its word.
+    Instruction(u32),
+}
+
+impl Stop {
+    /// The stop's number, 0 to 4.
+    pub fn number(self) -> u32 {
+        match self {
+            Stop::Limit => 0,
+            Stop::Trap(_) => 1,
+            Stop::Memory(_) => 2,
+            Stop::Misaligned(_) => 3,
+            Stop::Instruction(_) => 4,
+        }
+    }
+
+    /// The stop's detail, which is 0 for the limit.
+    pub fn detail(self) -> u32 {
+        match self {
+            Stop::Limit => 0,
+            Stop::Trap(detail)
+            | Stop::Memory(detail)
+            | Stop::Misaligned(detail)
+            | Stop::Instruction(detail) => detail,
+        }
+    }
+
+    fn new(number: u32, detail: u32) -> Self {
+        match number {
+            0 => Stop::Limit,
+            1 => Stop::Trap(detail),
+            2 => Stop::Memory(detail),
+            3 => Stop::Misaligned(detail),
+            4 => Stop::Instruction(detail),
+            _ => unreachable!("the library has no stop {number}"),
+        }
+    }
+}
+
+/// What a run answers.
+#[derive(Clone, Copy, Debug, PartialEq, Eq)]
+pub struct Ran {
+    /// Why it ended.
+    pub stop: Stop,
+    /// Instructions finished.
+    pub finished: u32,
+    /// Pages loaded from swap.
+    pub loads: u32,
+}
+
+/// A machine: its record, its main memory and its swap.
+#[derive(Clone, PartialEq, Eq)]
+pub struct Machine {
+    record: [u32; RECORD],
+    main: Vec<u8>,
+    swap: Vec<u8>,
+}
+
+impl Machine {
+    /// A fresh machine of a console image, with this many pages of main memory: 3 to 64, and at least one
+    /// more than the frames. Swap gets the image's pages. It can be refused 5, 6 and 7.
+    pub fn load(file: &[u8], main_pages: usize) -> Result<Self, Error> {
+        let ptl = image(file)?.ptl as usize;
+        // The library refuses any number of pages above 64; so many need not be there for that.
+        let mut main = vec![0; PAGE * main_pages.min(TOO_MANY)];
+        let mut swap = vec![0; PAGE * ptl];
+        let mut record = [0; RECORD];
+        Error::check(calls::load(file, &mut main, &mut swap, &mut record))?;
+        Ok(Machine { record, main, swap })
+    }
+
+    /// A machine put together from what [`Machine::into_parts`] gave, or by hand. Nothing is tested here:
+    /// each call but `reply` refuses 1 or 2 if the parts do not fit.
+    pub fn from_parts(record: [u32; RECORD], main: Vec<u8>, swap: Vec<u8>) -> Self {
+        Machine { record, main, swap }
+    }
+
+    /// Record, main memory and swap.
+    pub fn into_parts(self) -> ([u32; RECORD], Vec<u8>, Vec<u8>) {
+        (self.record, self.main, self.swap)
+    }
+
+    /// Runs at most `limit` instructions, 0 to 1,000,000. It can be refused 1, 2 and 4.
+    pub fn run(&mut self, limit: u32) -> Result<Ran, Error> {
+        let mut answer = [0; 4];
+        Error::check(calls::run(&mut self.record, &mut self.main, &mut self.swap, limit, &mut answer))?;
+        let [stop, detail, finished, loads] = answer;
+        Ok(Ran { stop: Stop::new(stop, detail), finished, loads })
+    }
+
+    /// Fills `into`, 0 to 256 bytes, from the guest's memory at `va`. It can be refused 1 to 4.
+    pub fn read(&self, va: u32, into: &mut [u8]) -> Result<(), Error> {
+        Error::check(calls::read(&self.record, &self.main, &self.swap, va, into))
+    }
+
+    /// Writes 0 to 256 bytes to the guest's memory at `va`. It can be refused 1 to 4.
+    pub fn write(&mut self, va: u32, from: &[u8]) -> Result<(), Error> {
+        Error::check(calls::write(&mut self.record, &mut self.main, &mut self.swap, va, from))
+    }
+
+    /// The bytes of the guest's page, which needs the right to read. It can be refused 1, 2 and 3.
+    pub fn view(&self, page: u32) -> Result<[u8; PAGE], Error> {
+        let mut into = [0; PAGE];
+        Error::check(calls::view(&self.record, &self.main, &self.swap, page, &mut into))?;
+        Ok(into)
+    }
+
+    /// Sets register 1 to 31, as the answer to a trap. It can be refused 4.
+    pub fn reply(&mut self, register: u32, value: u32) -> Result<(), Error> {
+        Error::check(calls::reply(&mut self.record, register, value))
+    }
+
+    /// GPR 0 to 31.
+    pub fn registers(&self) -> &[u32] {
+        &self.record[GPR..DPC]
+    }
+
+    /// The address of the next instruction.
+    pub fn dpc(&self) -> u32 {
+        self.record[DPC]
+    }
+
+    /// The words of the record.
+    pub fn record(&self) -> &[u32; RECORD] {
+        &self.record
+    }
+
+    /// Main memory: the page table, the frames and what else the host keeps there.
+    pub fn main(&self) -> &[u8] {
+        &self.main
+    }
+
+    /// Swap.
+    pub fn swap(&self) -> &[u8] {
+        &self.swap
+    }
+}

@@ -1,0 +1,157 @@
+//! Worked values of document 01, through the wrapper.
+use brenwythal::{image, Error, Image, Machine, Ran, Stop, PAGE};
+
+const DEPOT: &[u8] = include_bytes!("../../../examples/depot.img");
+
+/// A console image of these pages, each with its rights and its first words.
+fn console(pages: &[(u8, &[u32])], start: u32, frames: u32) -> Vec<u8> {
+    let ptl = pages.len() as u32;
+    let mut file = Vec::new();
+    for (_, words) in pages {
+        let end = file.len() + PAGE;
+        file.extend(words.iter().flat_map(|word| word.to_le_bytes()));
+        file.resize(end, 0);
+    }
+    file.extend(pages.iter().map(|(rights, _)| rights));
+    let trailer = [24 + ptl, 24 + 4097 * ptl, ptl, start, frames, 1];
+    file.extend(trailer.iter().flat_map(|number| number.to_le_bytes()));
+    file
+}
+
+/// "Image of one page, rights 3, start 0, frames 0, the three words above at 0, 4, 8."
+fn one_page() -> Vec<u8> {
+    console(&[(3, &[0x2401_0007, 0xAC01_0040, 0xF800_0005])], 0, 0)
+}
+
+/// Whether the guest's page is in a frame; loading puts the table at 0.
+fn is_resident(machine: &Machine, page: usize) -> bool {
+    machine.main()[4 * page] & 1 == 1
+}
+
+#[test]
+fn one_page_image() {
+    let file = one_page();
+    let about = image(&file).unwrap();
+    assert_eq!(about, Image { ptl: 1, start: 0, frames: 0 });
+    assert_eq!(about.least_main_pages(), 3);
+    let mut machine = Machine::load(&file, 5).unwrap();
+    assert_eq!((machine.main().len(), machine.swap().len()), (5 * PAGE, PAGE));
+    assert_eq!(machine.run(1000), Ok(Ran { stop: Stop::Trap(5), finished: 3, loads: 1 }));
+    assert_eq!(machine.dpc(), 12);
+    assert_eq!(machine.registers()[..3], [0, 7, 0]);
+    let mut word = [0xEE; 4];
+    machine.read(64, &mut word).unwrap();
+    assert_eq!(word, [7, 0, 0, 0]);
+    assert_eq!(machine.view(0).unwrap()[60..72], [0, 0, 0, 0, 7, 0, 0, 0, 0, 0, 0, 0]);
+    assert_eq!(machine.swap(), &file[..PAGE], "the page has changed in its frame alone");
+}
+
+/// "Host write of 37 2C 35 (hex) at 4095, page 0 in swap, page 1 resident: the same bytes are read after both
+/// have moved."
+#[test]
+fn seven_comma_five() {
+    let mut machine = Machine::load(DEPOT, 3).unwrap();
+    assert_eq!(machine.run(1000).unwrap().stop, Stop::Trap(1));
+    assert_eq!((is_resident(&machine, 0), is_resident(&machine, 1)), (false, true));
+    machine.write(4095, b"7,5").unwrap();
+    let mut field = [0; 3];
+    machine.read(4095, &mut field).unwrap();
+    assert_eq!(field, [0x37, 0x2C, 0x35]);
+
+    // Both pages are loaded again, byte by byte, into the registers 1 to 3.
+    let ran = machine.run(1000).unwrap();
+    assert_eq!(ran.stop, Stop::Trap(2));
+    assert_eq!(machine.registers()[1..4], [0x37, 0x2C, 0x35]);
+    field = [0; 3];
+    machine.read(4095, &mut field).unwrap();
+    assert_eq!(field, [0x37, 0x2C, 0x35]);
+    assert_eq!(machine.view(0).unwrap()[4095], 0x37);
+    assert_eq!(machine.view(1).unwrap()[..2], [0x2C, 0x35]);
+}
+
+/// "Fresh, a = 2, limit 2, code on page 0, all readable, lw from page 1, then lw from page 2."
+#[test]
+fn four_loads() {
+    let lw = |from: u32| 35 << 26 | 1 << 16 | from;
+    let file = console(&[(3, &[lw(4096), lw(8192)]), (1, &[]), (1, &[])], 0, 2);
+    let mut machine = Machine::load(&file, 3).unwrap();
+    assert_eq!(machine.run(2), Ok(Ran { stop: Stop::Limit, finished: 2, loads: 4 }));
+    assert_eq!(machine.record()[6..10], [2, 0, 2, 0], "b, hand, B");
+}
+
+#[test]
+fn stops() {
+    let stop_of = |word: u32, start: u32| {
+        let mut machine = Machine::load(&console(&[(3, &[word])], start, 0), 3).unwrap();
+        let before = *machine.record();
+        let stop = machine.run(1).unwrap().stop;
+        assert_eq!(machine.record()[40..], before[40..]);
+        (stop, stop.number(), stop.detail())
+    };
+    assert_eq!(stop_of(0x8C01_1000, 0), (Stop::Memory(4096), 2, 4096));
+    assert_eq!(stop_of(0, 8192), (Stop::Memory(8192), 2, 8192));
+    assert_eq!(stop_of(0x8C01_0002, 0), (Stop::Misaligned(2), 3, 2));
+    assert_eq!(stop_of(0xFFFF_FFFF, 0), (Stop::Instruction(0xFFFF_FFFF), 4, 0xFFFF_FFFF));
+}
+
+#[test]
+fn refusals() {
+    let file = one_page();
+    assert_eq!(image(&[]), Err(Error::NoImage));
+    assert_eq!(Machine::load(&file[..23], 5).err(), Some(Error::NoImage));
+    assert_eq!(image(&console(&[(3, &[])], 0, 1)), Err(Error::Trailer));
+    assert_eq!(Machine::load(&console(&[(4, &[])], 0, 0), 5).err(), Some(Error::Trailer));
+    for pages in [0, 2, 65, usize::MAX] {
+        assert_eq!(Machine::load(&file, pages).err(), Some(Error::Room));
+    }
+    assert!(Machine::load(&file, 3).is_ok() && Machine::load(&file, 64).is_ok());
+
+    let mut machine = Machine::load(&file, 5).unwrap();
+    assert_eq!(machine.run(0), Ok(Ran { stop: Stop::Limit, finished: 0, loads: 0 }));
+    let fresh = machine.clone();
+    assert_eq!(machine.run(1_000_001), Err(Error::Range));
+    assert_eq!(machine.read(0, &mut [0; 257]), Err(Error::Range));
+    assert_eq!(machine.write(0, &[0; 257]), Err(Error::Range));
+    assert_eq!(machine.reply(0, 1), Err(Error::Range));
+    assert_eq!(machine.reply(32, 1), Err(Error::Range));
+    assert_eq!(machine.write(4000, &[0; 97]), Err(Error::Page));
+    assert_eq!(machine.read(u32::MAX, &mut [0]), Err(Error::Page));
+    assert_eq!(machine.view(1), Err(Error::Page));
+    assert_eq!(machine.read(u32::MAX, &mut []), Ok(()));
+    assert_eq!(machine.write(u32::MAX, &[]), Ok(()));
+    assert!(machine == fresh);
+    assert_eq!(machine.write(4000, &[1; 96]), Ok(()));
+    assert_eq!(machine.run(1_000_000).unwrap().stop, Stop::Trap(5));
+}
+
+#[test]
+fn parts_that_do_not_fit() {
+    let (record, main, swap) = Machine::load(&one_page(), 3).unwrap().into_parts();
+    let mut empty = Machine::from_parts(record, Vec::new(), Vec::new());
+    assert_eq!(empty.run(1), Err(Error::Bounds));
+    assert_eq!(empty.read(0, &mut []), Err(Error::Bounds));
+    assert_eq!(empty.view(0), Err(Error::Bounds));
+    assert_eq!(empty.reply(31, 9), Ok(()));
+    assert_eq!(empty.registers()[31], 9);
+    let mut crooked = record;
+    crooked[40] = 1;
+    let mut unsound = Machine::from_parts(crooked, main.clone(), swap.clone());
+    assert_eq!(unsound.run(1), Err(Error::Unsound));
+    assert_eq!(unsound.write(0, &[1]), Err(Error::Unsound));
+    assert!(unsound == Machine::from_parts(crooked, main, swap));
+}
+
+#[test]
+fn errors_say_their_number() {
+    assert_eq!(Error::Unsound.to_string(), "refused 2: registers, frame book and page table do not agree");
+    let all = [
+        Error::Bounds,
+        Error::Unsound,
+        Error::Page,
+        Error::Range,
+        Error::NoImage,
+        Error::Trailer,
+        Error::Room,
+    ];
+    assert!(all.iter().zip(1..).all(|(error, number)| error.number() == number));
+}

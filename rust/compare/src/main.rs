@@ -1,0 +1,125 @@
+//! Compares the proved library with the peer: `compare [seed] [calls]`, as the harness has it.
+#![forbid(unsafe_code)]
+use brenwythal::{calls, PAGE};
+use harness::{Engine, ImageAnswer, State};
+
+/// What stands in an answer or a buffer before the call, to see what the library writes there.
+const BEFORE: u32 = 0xDEAD_BEEF;
+
+/// The proved library, on the state as it is.
+struct Proved;
+
+impl Engine for Proved {
+    fn load(&mut self, image: &[u8], state: &mut State) -> u32 {
+        calls::load(image, &mut state.main, &mut state.swap, &mut state.words)
+    }
+
+    fn run(&mut self, state: &mut State, limit: u32) -> [u32; 5] {
+        let mut answer = [BEFORE; 4];
+        let refusal = calls::run(&mut state.words, &mut state.main, &mut state.swap, limit, &mut answer);
+        let [stop, detail, finished, loads] = answer;
+        [refusal, stop, detail, finished, loads]
+    }
+
+    fn host_read(&mut self, state: &mut State, va: u32, buffer: &mut [u8]) -> u32 {
+        calls::read(&state.words, &state.main, &state.swap, va, buffer)
+    }
+
+    fn host_write(&mut self, state: &mut State, va: u32, bytes: &[u8]) -> u32 {
+        calls::write(&mut state.words, &mut state.main, &mut state.swap, va, bytes)
+    }
+
+    /// The library copies the page out; of a refused view the buffer is handed on if it was touched.
+    fn page_view(&mut self, state: &mut State, page: u32) -> (u32, Vec<u8>) {
+        let untouched = vec![BEFORE as u8; PAGE];
+        let mut buffer = untouched.clone();
+        let refusal = calls::view(&state.words, &state.main, &state.swap, page, &mut buffer);
+        if refusal != 0 && buffer == untouched {
+            buffer.clear();
+        }
+        (refusal, buffer)
+    }
+
+    fn reply(&mut self, state: &mut State, register: u32, value: u32) -> u32 {
+        calls::reply(&mut state.words, register, value)
+    }
+
+    /// The header's call answers the numbers alone; the parts follow from them as a C host would cut them.
+    fn read_image(&mut self, image: &[u8]) -> ImageAnswer {
+        let mut answer = [BEFORE; 3];
+        let refusal = calls::image(image, &mut answer);
+        let [ptl, start, frames] = answer;
+        let (mut pages, mut rights) = (0..0, 0..0);
+        if refusal == 0 {
+            rights.end = image.len() - 24;
+            rights.start = rights.end - ptl as usize;
+            pages.end = rights.start;
+            pages.start = pages.end - PAGE * ptl as usize;
+        }
+        ImageAnswer { refusal, ptl, start, frames, pages, rights }
+    }
+}
+
+fn main() -> std::io::Result<()> {
+    harness::cli(&mut Proved)
+}
+
+#[cfg(test)]
+mod tests {
+    use super::*;
+    use harness::{compare, Peer};
+
+    #[test]
+    fn the_proved_library_agrees_with_the_peer() {
+        let stats = compare(7, 4000, &mut Peer, &mut Proved).unwrap();
+        assert!(stats.refusals.iter().all(|&count| count > 0), "{stats:?}");
+        assert!(stats.stops.iter().all(|&count| count > 0), "{stats:?}");
+    }
+
+    /// A record, an answer or a view's buffer of the wrong length is refused 1, and nothing changes.
+    #[test]
+    fn wrong_lengths() {
+        let file =
+            [vec![0; PAGE], vec![3], [25u32, 4121, 1, 0, 0, 1].map(u32::to_le_bytes).concat()].concat();
+        let (mut main, mut swap) = (vec![0xA5; 3 * PAGE], vec![0x5A; PAGE]);
+        for len in [0, 73, 75, 148] {
+            let mut words = vec![BEFORE; len];
+            assert_eq!(calls::load(&file, &mut main, &mut swap, &mut words), 1);
+            assert!(words.iter().all(|&word| word == BEFORE));
+        }
+        assert!(main.iter().all(|&byte| byte == 0xA5) && swap.iter().all(|&byte| byte == 0x5A));
+        for len in [0, 2, 4] {
+            let mut answer = vec![BEFORE; len];
+            assert_eq!(calls::image(&file, &mut answer), 1);
+            assert_eq!(calls::image(&[], &mut answer), 1, "1 comes before 5");
+            assert!(answer.iter().all(|&word| word == BEFORE));
+        }
+
+        let mut record = vec![BEFORE; 74];
+        assert_eq!(calls::load(&file, &mut main, &mut swap, &mut record), 0);
+        let good = (record.clone(), main.clone(), swap.clone());
+        for len in [0, 3, 5] {
+            let mut answer = vec![BEFORE; len];
+            assert_eq!(calls::run(&mut record, &mut main, &mut swap, 1, &mut answer), 1);
+            assert!(answer.iter().all(|&word| word == BEFORE));
+        }
+        for len in [0, 1, PAGE - 1, PAGE + 1] {
+            let mut buffer = vec![0xEE; len];
+            assert_eq!(calls::view(&record, &main, &swap, 0, &mut buffer), 1);
+            assert!(buffer.iter().all(|&byte| byte == 0xEE));
+        }
+        for len in [0, 73, 75] {
+            let mut other = record.clone();
+            other.resize(len, 0);
+            let before = other.clone();
+            let (mut answer, mut buffer) = ([BEFORE; 4], [0xEE; PAGE]);
+            assert_eq!(calls::run(&mut other, &mut main, &mut swap, 1, &mut answer), 1);
+            assert_eq!(calls::read(&other, &main, &swap, 0, &mut buffer[..1]), 1);
+            assert_eq!(calls::write(&mut other, &mut main, &mut swap, 0, &[1]), 1);
+            assert_eq!(calls::view(&other, &main, &swap, 0, &mut buffer), 1);
+            assert_eq!(calls::reply(&mut other, 1, 1), 1);
+            assert!(other == before && buffer.iter().all(|&byte| byte == 0xEE));
+        }
+        assert!((record, main, swap) == good);
+    }
+}

@@ -1,0 +1,53 @@
+-- `disturb`: the first word that fits decides.
+use mathlib.Core.Path.{sym, _∙_}
+use Rattle.script.proofs.Ways.{disturb-1, disturb-2, disturb-3, disturb-4, disturb-5}
+use borrow.Author.Needs.{needs}
+use Rattle.script.proofs.disturb.Statement.{statement}
+use Rattle.script.proofs.disturb.Tie as tie
+
+returns : tie.Need-returns
+returns c =
+    c .main-of .ensures
+    ∙ disturb-1 _ _ _ (sym (c .before .before .same .ensures) ∙ c .before .if1 .taken)
+
+returns-2 : tie.Need-returns-2
+returns-2 c =
+    c .swap-of .ensures
+    ∙ disturb-2 _ _ _ (sym (c .before .before .before .before .before .same .ensures) ∙ c .before .before .before .before .if1
+    .left)
+    (sym (c .before .before .same2 .ensures) ∙ c .before .if2 .taken)
+
+returns-3 : tie.Need-returns-3
+returns-3 c =
+    c .record-of .ensures
+    ∙ disturb-3 _ _ _ (sym (c .before .before .before .before .before .before .before .before .same .ensures) ∙ c .before .before
+    .before .before .before .before .before .if1 .left)
+    (sym (c .before .before .before .before .before .same2 .ensures) ∙ c .before .before .before .before .if2 .left)
+    (sym (c .before .before .same3 .ensures) ∙ c .before .if3 .taken)
+
+returns-4 : tie.Need-returns-4
+returns-4 c =
+    c .lend-of .ensures
+    ∙ disturb-4 _ _ _ (sym (c .before .before .before .before .before .before .before .before .before .before .before .same
+    .ensures) ∙ c .before .before .before .before .before .before .before .before .before .before .if1 .left)
+    (sym (c .before .before .before .before .before .before .before .before .same2 .ensures) ∙ c .before .before .before .before
+    .before .before .before .if2 .left)
+    (sym (c .before .before .before .before .before .same3 .ensures) ∙ c .before .before .before .before .if3 .left)
+    (sym (c .before .before .same4 .ensures) ∙ c .before .if4 .taken)
+
+returns-5 : tie.Need-returns-5
+returns-5 c =
+    disturb-5 _ _ _ (sym (c .before .before .before .before .before .before .before .before .before .before .same .ensures) ∙ c
+    .before .before .before .before .before .before .before .before .before .if1 .left)
+    (sym (c .before .before .before .before .before .before .before .same2 .ensures) ∙ c .before .before .before .before .before
+    .before .if2 .left)
+    (sym (c .before .before .before .before .same3 .ensures) ∙ c .before .before .before .if3 .left)
+    (sym (c .before .same4 .ensures) ∙ c .if4 .left)
+
+pub disturb-spec : {M : Type 1} → statement M
+disturb-spec =
+    tie.close
+    (tie.spec (λ c. search needs) (λ c κs. search needs) (λ c κs. search needs) returns (λ c. search needs) (λ c κs. search needs)
+    (λ c κs. search needs) returns-2 (λ c. search needs) (λ c κs. search needs) (λ c κs. search needs) returns-3 (λ c. search
+    needs)
+    (λ c κs. search needs) (λ c κs. search needs) returns-4 returns-5)

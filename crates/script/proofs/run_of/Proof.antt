@@ -1,0 +1,20 @@
+-- `run_of`: one number, or a column that does not fit.
+use mathlib.Core.Path.{sym, ap, _∙_}
+use Rattle.script.specs.Grammar.{ofOne, runLine}
+use Rattle.script.specs.declared.Command.the-variants.{Run}
+use borrow.Author.Needs.{needs}
+use Rattle.script.proofs.run_of.Statement.{statement}
+use Rattle.script.proofs.run_of.Tie as tie
+
+returns : tie.Need-returns
+unfolding runLine
+returns c = ap (ofOne Run) (sym (c .before .value .given .1) ∙ c .before .before .before .one-number .ensures)
+
+returns-2 : tie.Need-returns-2
+unfolding runLine
+returns-2 c = ap (ofOne Run) (sym (c .before .column .given .1) ∙ c .before .before .before .one-number .ensures)
+
+pub run-of-spec : {M : Type 1} → statement M
+run-of-spec =
+    tie.close
+    (tie.spec (λ c κs. search needs) (λ c. search needs) (λ c. search needs) returns returns-2)

@@ -1,0 +1,35 @@
+-- `calls::run`: refused, or it ran.
+use mathlib.Core.Path.{ap}
+use Rattle.model.specs.Calls.{RunOutcome}
+use Rattle.series.proofs.Answered.{written-as, run-refused, run-ran}
+use borrow.Author.Needs.{needs}
+use Rattle.series.proofs.calls.run.Statement.{statement}
+use Rattle.series.proofs.calls.run.Tie as tie
+
+returns : tie.Need-returns
+returns c =
+    let b = c .before .before .before .before .before .before .before .before .before .before .before .before .before .run in (
+      written-as (c .before .before .refused-line .ensures)
+          (run-refused (b .result .answer) _ _ (b .ensures) (c .before .before .before .before .before .before .answer .given .1)
+          (c .before .before .before .refusal-number .ensures)),
+      ap (λ (o : RunOutcome). o .state) (b .ensures),
+    )
+
+returns-2 : tie.Need-returns-2
+returns-2 c =
+    let b = c .before .before .before .before .before .before .before .before .before .before .before .before .before .before
+    .run in (
+      written-as (c .before .before .run-line .ensures)
+          (run-ran (b .result .answer) _ _ (b .ensures) (c .before .before .before .before .before .before .before .answer2
+          .given .1) (c .before .before .before .before .stop-number .ensures) (c .before .before .before .stop-detail
+          .ensures)),
+      ap (λ (o : RunOutcome). o .state) (b .ensures),
+    )
+
+pub run-spec : {M : Type 1} → statement M
+run-spec =
+    tie.close
+    (tie.spec (λ c κs. search needs) (λ c. search needs) (λ c κs. search needs) (λ c κs. search needs) (λ c. search needs)
+    (λ c κs. search needs) (λ c κs. search needs) (λ c κs. search needs) (λ c. search needs) (λ c. search needs) (λ c. search
+    needs)
+    returns (λ c. search needs) (λ c. search needs) (λ c. search needs) returns-2)

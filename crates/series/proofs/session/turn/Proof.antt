@@ -1,0 +1,24 @@
+-- `session::turn`: the answer lies within its buffer.
+use mathlib.Core.Path.{sym}
+use native.Mathlib.Omega.{arith}
+use lib.Seq.{length-take-le}
+use borrow.Author.Needs.{needs}
+use Rattle.series.proofs.session.turn.Statement.{statement}
+use Rattle.series.proofs.session.turn.Tie as tie
+
+slice-aggregate-write-all : tie.Need-slice-aggregate-write-all
+slice-aggregate-write-all c =
+    let s = c .before .before .before .before .before .before .before .before .before .step in
+    sym (length-take-le (s .result .filled) (s .last .1 .1 .1 .1 .1 .1 .0) (omega (
+      arith,
+      s .ensures .short,
+      c .before .before
+          .before .before .before .before .before .before .before .before .before .before .before .before .before .before .before
+          .before .before .pre .1 .out-long,
+    )))
+
+pub turn-spec : {M : Type 1} → statement M
+turn-spec =
+    tie.close
+    (tie.spec (λ c κs. search needs) (λ c. search needs) slice-aggregate-write-all (λ c κs. search needs) (λ c. search needs)
+    (λ c. search needs) (λ c. search needs) (λ c. search needs) (λ c. search needs))

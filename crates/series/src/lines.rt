@@ -1,0 +1,135 @@
+// The lines that the program answers with, each put into a lent buffer from its start on.
+use model::FrameBook;
+use model::Pcs;
+use model::VirtualPage;
+use text::put;
+use text::put_hex;
+use text::put_number;
+ghost use mathlib.Core.Path.{_≡_};
+ghost use mathlib.Core.List.{_++_};
+ghost use Prim.Native.Nat.{_+_, _*_, _≤_};
+ghost use lib.ListN.{length};
+ghost use Rattle.model.specs.Console.{spaced, newline};
+ghost use Rattle.text.specs.Text.{Appended, Written};
+ghost use Rattle.series.specs.Lines as lines;
+
+// A space and a number.
+fn put_spaced(out: &mut [u8], at: usize, n: u32) -> usize
+    requires { ⌜ at + 11 ≤ length (now out) ⌝ }
+    ensures { λ r. ⌜ Appended (now (out .entry)) at (now (out .exit)) r (spaced n) × (r ≤ at + 11) ⌝ }
+{
+    let to = put(out, at, b" ");
+    put_number(out, to, n)
+}
+
+// Two numbers, each behind a space.
+fn put_pair(out: &mut [u8], at: usize, first: u32, second: u32) -> usize
+    requires { ⌜ at + 22 ≤ length (now out) ⌝ }
+    ensures { λ r. ⌜ Appended (now (out .entry)) at (now (out .exit)) r (lines.pair first second) × (r ≤ at + 22) ⌝ }
+{
+    let to = put_spaced(out, at, first);
+    put_spaced(out, to, second)
+}
+
+// A word alone.
+pub(crate) fn word_line(out: &mut [u8], word: &[u8]) -> usize
+    requires { ⌜ length (now word) + 1 ≤ length (now out) ⌝ }
+    ensures { λ r. ⌜ Written (now (out .exit)) r (lines.wordLine (now (word .entry))) ⌝ }
+{
+    let to = put(out, 0, word);
+    put(out, to, b"\n")
+}
+
+// A word and two numbers.
+pub(crate) fn pair_line(out: &mut [u8], word: &[u8], first: u32, second: u32) -> usize
+    requires { ⌜ length (now word) + 23 ≤ length (now out) ⌝ }
+    ensures { λ r. ⌜ Written (now (out .exit)) r (lines.pairLine (now (word .entry)) first second) ⌝ }
+{
+    let to = put(out, 0, word);
+    let end = put_pair(out, to, first, second);
+    put(out, end, b"\n")
+}
+
+// A word with its space, and bytes in hex.
+pub(crate) fn hex_line(out: &mut [u8], word: &[u8], bytes: &[u8]) -> usize
+    requires { ⌜ length (now word) + 2 * length (now bytes) + 1 ≤ length (now out) ⌝ }
+    ensures { λ r. ⌜ Written (now (out .exit)) r (lines.hexLine (now (word .entry)) (now (bytes .entry))) ⌝ }
+{
+    let to = put(out, 0, word);
+    let end = put_hex(out, to, bytes);
+    put(out, end, b"\n")
+}
+
+// `run STOP DETAIL FINISHED LOADS`
+pub(crate) fn run_line(out: &mut [u8], stop: u32, detail: u32, finished: u32, loads: u32) -> usize
+    requires { ⌜ 128 ≤ length (now out) ⌝ }
+    ensures { λ r. ⌜ Written (now (out .exit)) r (lines.runLine stop detail finished loads) ⌝ }
+{
+    let first = put(out, 0, b"run");
+    let second = put_pair(out, first, stop, detail);
+    let end = put_pair(out, second, finished, loads);
+    put(out, end, b"\n")
+}
+
+// `loaded PTL START FRAMES`
+pub(crate) fn loaded_line(out: &mut [u8], ptl: u32, start: u32, frames: u32) -> usize
+    requires { ⌜ 128 ≤ length (now out) ⌝ }
+    ensures { λ r. ⌜ Written (now (out .exit)) r (lines.loadedLine ptl start frames) ⌝ }
+{
+    let first = put(out, 0, b"loaded");
+    let second = put_pair(out, first, ptl, start);
+    let end = put_spaced(out, second, frames);
+    put(out, end, b"\n")
+}
+
+// Every register, each behind a space.
+fn put_registers(out: &mut [u8], at: usize, gpr: [u32; 32]) -> usize
+    requires { ⌜ at + 352 ≤ length (now out) ⌝ }
+    ensures { λ r. ⌜ Appended (now (out .entry)) at (now (out .exit)) r (lines.spacedAll gpr) × (r ≤ at + 352) ⌝ }
+{
+    let mut to = at;
+    let mut i = 0;
+    while i < 32 {
+        to = put_spaced(out, to, gpr[i]);
+        i += 1;
+    }
+    to
+}
+
+// Every page of the frame book, each behind a space.
+fn put_held(out: &mut [u8], at: usize, held: [VirtualPage; 32]) -> usize
+    requires { ⌜ at + 352 ≤ length (now out) ⌝ }
+    ensures { λ r. ⌜ Appended (now (out .entry)) at (now (out .exit)) r (lines.spacedAll (lines.numbersOf held)) × (r ≤ at + 352) ⌝ }
+{
+    let mut to = at;
+    let mut i = 0;
+    while i < 32 {
+        let x = held[i];
+        to = put_spaced(out, to, x.0);
+        i += 1;
+    }
+    to
+}
+
+// `registers DPC PC' GPR0 .. GPR31`
+pub(crate) fn registers_line(out: &mut [u8], pcs: Pcs, gpr: [u32; 32]) -> usize
+    requires { ⌜ 512 ≤ length (now out) ⌝ }
+    ensures { λ r. ⌜ Written (now (out .exit)) r (lines.registersLine pcs gpr) ⌝ }
+{
+    let first = put(out, 0, b"registers");
+    let second = put_pair(out, first, pcs.dpc, pcs.next);
+    let end = put_registers(out, second, gpr);
+    put(out, end, b"\n")
+}
+
+// `frames USED HAND B0 .. B31`
+pub(crate) fn frames_line(out: &mut [u8], book: FrameBook) -> usize
+    requires { ⌜ 512 ≤ length (now out) ⌝ }
+    ensures { λ r. ⌜ Written (now (out .exit)) r (lines.framesLine book) ⌝ }
+{
+    let held = book.held;
+    let first = put(out, 0, b"frames");
+    let second = put_pair(out, first, book.used, book.hand);
+    let end = put_held(out, second, held);
+    put(out, end, b"\n")
+}

@@ -1,0 +1,92 @@
+// `series IMAGE_FILE MAIN_PAGES`: a script of calls on standard input, done on a machine that the image is loaded into.
+mod calls;
+mod lines;
+mod session;
+mod step;
+
+use script::parts;
+use script::parts::Part;
+ghost use Rattle.io.specs.Counts.{Counts};
+ghost use lib.ListN.{length};
+ghost use Prim.Native.Nat.{_≤_};
+
+// A decimal number below 2^32 and nothing behind it.
+fn pages_of(word: &[u8]) -> Part {
+    match parts::number_at(word, 0, 4294967295) {
+        Part::NotNumber { column } => Part::NotNumber { column: column },
+        Part::Number { value, next } => {
+            if next != word.len() {
+                return Part::NotNumber { column: 1 };
+            }
+            Part::Number {
+                value: value,
+                next: next,
+            }
+        }
+    }
+}
+
+fn fail(message: &[u8]) {
+    io::write_all(2, message);
+}
+
+// The script is read whole before anything is written; a byte more than it may have tells that it is too long.
+fn with_file(file: &[u8], pages: u32) {
+    let mut script = [0; 65537];
+    let count = io::read_full(0, &mut script);
+    if 65536 < count {
+        return fail(b"series: the script is longer than 65536 bytes\n");
+    }
+    let mut main = [0; 262144];
+    let mut swap = [0; 327680];
+    let mut spare = [0; 32768];
+    let mut out = [0; 9000];
+    session::session(
+        file,
+        pages,
+        &mut main,
+        &mut swap,
+        &script[..count],
+        &mut spare,
+        &mut out,
+    )
+}
+
+// The bytes behind the first ones, which are read already: all that are read now.
+fn read_on(file: i32, bytes: &mut [u8], first: usize) -> usize
+    requires { ⌜ first ≤ length (now bytes) ⌝ }
+    ensures { λ r. ⌜ Counts r (now (bytes .exit)) ⌝ }
+{
+    let more = io::read_full(file, &mut bytes[first..]);
+    first + more
+}
+
+// A byte more than an image may have is read, so that a longer file is known.
+fn with_descriptor(file: i32, pages: u32) {
+    let mut bytes = [0; 263257];
+    let got = libc::read(file, &mut bytes);
+    if got < 0 {
+        return os::fail(b"series: the image");
+    }
+    let first = io::count(got, &bytes);
+    let count = read_on(file, &mut bytes, first);
+    with_file(&bytes[..count], pages)
+}
+
+fn main() {
+    let mut name = io::buffer();
+    let mut word = io::buffer();
+    if os::arg_count() != 3 {
+        return fail(b"usage: series IMAGE_FILE MAIN_PAGES < SCRIPT\n");
+    }
+    let digits = os::arg(2, &mut word);
+    let Part::Number { value, next: _ } = pages_of(&word[..digits]) else {
+        return fail(b"series: MAIN_PAGES is a decimal number below 2^32\n");
+    };
+    let length = os::arg(1, &mut name);
+    let file = os::open_read(&name[..length]);
+    if file < 0 {
+        return os::fail(b"series: the image");
+    }
+    with_descriptor(file, value)
+}

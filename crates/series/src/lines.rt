@@ -2,9 +2,9 @@
 use model::FrameBook;
 use model::Pcs;
 use model::VirtualPage;
+use text::lines::put_spaced;
 use text::put;
 use text::put_hex;
-use text::put_number;
 ghost use mathlib.Core.Path.{_≡_};
 ghost use mathlib.Core.List.{_++_};
 ghost use Prim.Native.Nat.{_+_, _*_, _≤_};
@@ -12,15 +12,6 @@ ghost use lib.ListN.{length};
 ghost use Rattle.model.specs.Console.{spaced, newline};
 ghost use Rattle.text.specs.Text.{Appended, Written};
 ghost use Rattle.series.specs.Lines as lines;
-
-// A space and a number.
-fn put_spaced(out: &mut [u8], at: usize, n: u32) -> usize
-    requires { ⌜ at + 11 ≤ length (now out) ⌝ }
-    ensures { λ r. ⌜ Appended (now (out .entry)) at (now (out .exit)) r (spaced n) × (r ≤ at + 11) ⌝ }
-{
-    let to = put(out, at, b" ");
-    put_number(out, to, n)
-}
 
 // Two numbers, each behind a space.
 fn put_pair(out: &mut [u8], at: usize, first: u32, second: u32) -> usize

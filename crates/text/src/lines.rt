@@ -8,7 +8,7 @@ ghost use Rattle.model.specs.Console as console;
 ghost use Rattle.text.specs.Text as text;
 
 // A space and a number.
-fn put_spaced(out: &mut [u8], at: usize, n: u32) -> usize
+pub fn put_spaced(out: &mut [u8], at: usize, n: u32) -> usize
     requires { ⌜ at + 11 ≤ length (now out) ⌝ }
     ensures { λ r. ⌜ text.Appended (now (out .entry)) at (now (out .exit)) r (console.spaced n) × (r ≤ at + 11) ⌝ }
 {

@@ -122,4 +122,19 @@ mod tests {
         }
         assert!((record, main, swap) == good);
     }
+
+    /// The trap image, cut at every length from either end: the reader and the loader answer as the peer's do.
+    #[test]
+    fn images_cut_at_every_length() {
+        let image = std::fs::read(concat!(env!("CARGO_MANIFEST_DIR"), "/../../examples/trap.img")).unwrap();
+        for n in 0..=image.len() {
+            for cut in [&image[..n], &image[n..]] {
+                assert_eq!(Proved.read_image(cut), Peer.read_image(cut), "{} bytes", cut.len());
+                let lent = State { words: [7; 74], main: vec![9; 3 * 4096], swap: vec![9; 4096] };
+                let (mut ours, mut theirs) = (lent.clone(), lent);
+                assert_eq!(Proved.load(cut, &mut ours), Peer.load(cut, &mut theirs), "{} bytes", cut.len());
+                assert!(ours == theirs, "{} bytes", cut.len());
+            }
+        }
+    }
 }

@@ -8,7 +8,7 @@ use borrow.Author.Tests.{eq-eqb, ne-eqb, eqb-true, leb-true}
 use lib.Dec.{eqb, leb}
 use lib.Pow.{shr-mod}
 use Rattle.model.specs.Choice.{everyBelow}
-use Rattle.model.specs.Instruction.{register, immediate, plan, function}
+use Rattle.model.specs.Instruction.{register, immediate, function}
 use Rattle.model.specs.declared.Plan.the-variants.{Unknown}
 use Rattle.laws.proofs.Choice.{and-left, and-right, or-second, every-at}
 
@@ -42,20 +42,20 @@ apart l n h a c z s e = pick (leb a n && leb n z) refl
         absurd (false≢true (sym (absent l n h (a + (n - a)) found) ∙ eq-eqb n (a + (n - a)) (omega arith)))
     pick false q = q
 
--- the functions and the opcodes that the tables have
+-- the functions that the tables have, and the opcodes other than 0
 abbrev functions : List ℕ
 functions = 47 ∷ 46 ∷ 45 ∷ 44 ∷ 43 ∷ 42 ∷ 41 ∷ 40 ∷ 39 ∷ 38 ∷ 37 ∷ 36 ∷ 35 ∷ 33 ∷ 7 ∷ 6 ∷ 4 ∷ 3 ∷ 2 ∷ 0 ∷ []
 
 abbrev opcodes : List ℕ
 opcodes =
     62 ∷ 43 ∷ 41 ∷ 40 ∷ 37 ∷ 36 ∷ 35 ∷ 33 ∷ 32 ∷ 31 ∷ 30 ∷ 29 ∷ 28 ∷ 27 ∷ 26 ∷ 25 ∷ 24 ∷ 23 ∷ 22
-    ∷ 15 ∷ 14 ∷ 13 ∷ 12 ∷ 11 ∷ 9 ∷ 5 ∷ 4 ∷ 3 ∷ 2 ∷ 0 ∷ []
+    ∷ 15 ∷ 14 ∷ 13 ∷ 12 ∷ 11 ∷ 9 ∷ 5 ∷ 4 ∷ 3 ∷ 2 ∷ []
 
 pub unknown-function : (next w x y : ℕ) → NoneOf (function w) functions → Unknown ≡ register next w x y
 unfolding register everyBelow
 unknown-function next w x y h = simp (absent functions (function w) h, apart functions (function w) h 40 8 47 refl refl)
 
-pub unknown-opcode : (gpr : List ℕ) (next w : ℕ) → w < 2 ^ 32 → NoneOf (w / 2 ^ 26) opcodes → Unknown ≡ plan gpr next w
-unfolding plan immediate everyBelow
-unknown-opcode gpr next w s h =
+pub unknown-opcode : (next w x y c : ℕ) → w < 2 ^ 32 → NoneOf (w / 2 ^ 26) opcodes → Unknown ≡ immediate next w x y c
+unfolding immediate everyBelow
+unknown-opcode next w x y c s h =
     simp (shr-mod {n = w} 6 26 s, absent opcodes (w / 2 ^ 26) h, apart opcodes (w / 2 ^ 26) h 24 8 31 refl refl)

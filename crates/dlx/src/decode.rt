@@ -7,6 +7,7 @@ ghost use Prim.Native.Nat.{_<_};
 ghost use Rattle.model.specs.Choice.{if_then_else_};
 ghost use Rattle.model.specs.Words.{plus};
 ghost use Rattle.model.specs.Instruction as model;
+ghost use Rattle.model.specs.declared.Plan.the-variants.{LoadByte, LoadHalf, LoadWord, StoreByte, StoreHalf, StoreWord};
 
 // The fields RS1, RD (which is RS2 under opcode 0) and imm.
 fn rs1(w: u32) -> usize
@@ -107,6 +108,63 @@ fn branch(next: u32, taken: bool, by: u32) -> Plan
     jump(target)
 }
 
+// A load and a store of each width: "Address of a load or store: RS1+imm."
+fn load_byte(g: &[u32; 32], w: u32, signed: bool) -> Plan
+    ensures { λ r. ⌜ r ≡ LoadByte signed (model.rd w) (plus (model.reg (now (g .entry)) (model.rs1 w)) (model.imm w)) ⌝ }
+{
+    Plan::LoadByte {
+        signed: signed,
+        rd: rd(w),
+        va: address(g, w),
+    }
+}
+
+fn load_half(g: &[u32; 32], w: u32, signed: bool) -> Plan
+    ensures { λ r. ⌜ r ≡ LoadHalf signed (model.rd w) (plus (model.reg (now (g .entry)) (model.rs1 w)) (model.imm w)) ⌝ }
+{
+    Plan::LoadHalf {
+        signed: signed,
+        rd: rd(w),
+        va: address(g, w),
+    }
+}
+
+fn load_word(g: &[u32; 32], w: u32) -> Plan
+    ensures { λ r. ⌜ r ≡ LoadWord (model.rd w) (plus (model.reg (now (g .entry)) (model.rs1 w)) (model.imm w)) ⌝ }
+{
+    Plan::LoadWord {
+        rd: rd(w),
+        va: address(g, w),
+    }
+}
+
+fn store_byte(g: &[u32; 32], w: u32) -> Plan
+    ensures { λ r. ⌜ r ≡ StoreByte (plus (model.reg (now (g .entry)) (model.rs1 w)) (model.imm w)) (model.reg (now (g .entry)) (model.rd w)) ⌝ }
+{
+    Plan::StoreByte {
+        va: address(g, w),
+        value: second(g, w),
+    }
+}
+
+fn store_half(g: &[u32; 32], w: u32) -> Plan
+    ensures { λ r. ⌜ r ≡ StoreHalf (plus (model.reg (now (g .entry)) (model.rs1 w)) (model.imm w)) (model.reg (now (g .entry)) (model.rd w)) ⌝ }
+{
+    Plan::StoreHalf {
+        va: address(g, w),
+        value: second(g, w),
+    }
+}
+
+fn store_word(g: &[u32; 32], w: u32) -> Plan
+    ensures { λ r. ⌜ r ≡ StoreWord (plus (model.reg (now (g .entry)) (model.rs1 w)) (model.imm w)) (model.reg (now (g .entry)) (model.rd w)) ⌝ }
+{
+    Plan::StoreWord {
+        va: address(g, w),
+        value: second(g, w),
+    }
+}
+
 // A word of opcode 0.
 fn function(g: &[u32; 32], next: u32, w: u32) -> Plan
     ensures { λ r. ⌜ r ≡ model.register next w (model.reg (now (g .entry)) (model.rs1 w)) (model.reg (now (g .entry)) (model.rs2 w)) ⌝ }
@@ -118,12 +176,11 @@ fn function(g: &[u32; 32], next: u32, w: u32) -> Plan
     }
 }
 
-// What the word w asks for, with the registers as they are and `next` in PC'.
-pub fn plan(g: &[u32; 32], next: u32, w: u32) -> Plan
-    ensures { λ r. ⌜ r ≡ model.plan (now (g .entry)) next w ⌝ }
+// A word of another opcode.
+fn immediate(g: &[u32; 32], next: u32, w: u32) -> Plan
+    ensures { λ r. ⌜ r ≡ model.immediate next w (model.reg (now (g .entry)) (model.rs1 w)) (model.reg (now (g .entry)) (model.rd w)) (model.imm w) ⌝ }
 {
     match w / 67108864 {
-        0 => function(g, next, w),
         2 => jump(far(next, w)),
         3 => link(next, far(next, w)),
         4 => branch(next, first(g, w) == 0, imm(w)),
@@ -144,43 +201,26 @@ pub fn plan(g: &[u32; 32], next: u32, w: u32) -> Plan
         29 => set(next, rd(w), alu::compare(5, first(g, w), imm(w))),
         30 => set(next, rd(w), alu::compare(6, first(g, w), imm(w))),
         31 => set(next, rd(w), 1),
-        32 => Plan::LoadByte {
-            signed: true,
-            rd: rd(w),
-            va: address(g, w),
-        },
-        33 => Plan::LoadHalf {
-            signed: true,
-            rd: rd(w),
-            va: address(g, w),
-        },
-        35 => Plan::LoadWord {
-            rd: rd(w),
-            va: address(g, w),
-        },
-        36 => Plan::LoadByte {
-            signed: false,
-            rd: rd(w),
-            va: address(g, w),
-        },
-        37 => Plan::LoadHalf {
-            signed: false,
-            rd: rd(w),
-            va: address(g, w),
-        },
-        40 => Plan::StoreByte {
-            va: address(g, w),
-            value: second(g, w),
-        },
-        41 => Plan::StoreHalf {
-            va: address(g, w),
-            value: second(g, w),
-        },
-        43 => Plan::StoreWord {
-            va: address(g, w),
-            value: second(g, w),
-        },
+        32 => load_byte(g, w, true),
+        33 => load_half(g, w, true),
+        35 => load_word(g, w),
+        36 => load_byte(g, w, false),
+        37 => load_half(g, w, false),
+        40 => store_byte(g, w),
+        41 => store_half(g, w),
+        43 => store_word(g, w),
         62 => Plan::Trapping(w % 67108864),
         _ => Plan::Unknown,
     }
+}
+
+// What the word w asks for, with the registers as they are and `next` in PC'. Opcode 0 is asked apart: a second table reached
+// through the first would be a second indirect jump for half of all instructions.
+pub fn plan(g: &[u32; 32], next: u32, w: u32) -> Plan
+    ensures { λ r. ⌜ r ≡ model.plan (now (g .entry)) next w ⌝ }
+{
+    if w >= 67108864 {
+        return immediate(g, next, w);
+    }
+    function(g, next, w)
 }

@@ -1,2 +1,3 @@
 -- What the contracts of an attempt name.
 pub mod Numbered
+pub mod Found

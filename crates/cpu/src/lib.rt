@@ -1,4 +1,7 @@
 // One attempt at an instruction, on lent registers and lent main memory.
+pub mod code;
+
+use crate::code::CodePage;
 use dlx::alu;
 use dlx::decode;
 use model::Access;
@@ -17,6 +20,7 @@ ghost use Rattle.model.specs.Translate.{translate};
 ghost use Rattle.model.specs.Attempt as one;
 ghost use Rattle.laws.specs.Good.{Safe};
 ghost use Rattle.cpu.specs.Numbered.{Numbered};
+ghost use Rattle.cpu.specs.Found.{Found};
 
 // The right that an access asks for: "reading or writing".
 const READING: bool = false;
@@ -195,9 +199,9 @@ fn obey(g: &mut [u32; 32], p: Pcs, s: Shape, m: &mut [u8], w: u32, t: Plan) -> O
     }
 }
 
-// Steps 1 and 2: DPC's alignment, the fetch.
-pub fn attempt(g: &mut [u32; 32], p: Pcs, s: Shape, m: &mut [u8]) -> Outcome
-    requires { ⌜ Safe s (now m) ⌝ }
+// Steps 1 and 2: DPC's alignment, the fetch. The code page c spares the fetch the table.
+pub fn attempt(g: &mut [u32; 32], p: Pcs, s: Shape, m: &mut [u8], c: CodePage) -> Outcome
+    requires { ⌜ Safe s (now m) × Found s (now m) c ⌝ }
     ensures { λ r. ⌜ one.tried r (now (g .exit)) (now (m .exit))
         ≡ one.attempt (translate s (now (m .entry))) (now (g .entry)) (now (m .entry)) p ⌝ }
 {
@@ -205,7 +209,7 @@ pub fn attempt(g: &mut [u32; 32], p: Pcs, s: Shape, m: &mut [u8]) -> Outcome
     if dpc % 4 != 0 {
         return Outcome::Stopped(Stop::Misaligned(dpc));
     }
-    let a = table::locate(s, m, dpc, READING);
+    let a = code::reach(s, m, c, dpc);
     match a {
         Access::Illegal => Outcome::Stopped(Stop::Memory(dpc)),
         Access::Fault => Outcome::Missing(dpc),

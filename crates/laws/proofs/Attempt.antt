@@ -4,7 +4,6 @@ use mathlib.Core.Path.{_≡_, refl, sym, ap, ap₂, subst, subst⁻¹, _∙_}
 use mathlib.Core.Bool.{Bool, true, false, false≢true}
 use mathlib.Core.List.{List}
 use Prim.Native.Nat.{ℕ, _<_}
-use native.Mathlib.Omega.{arith}
 use lib.Dec.{eqb}
 use lib.ListN.{getD, set}
 use lib.Seq.{getD-set-other}
@@ -29,6 +28,7 @@ use Rattle.model.specs.declared.Outcome.the-variants.{Done, Missing}
 use Rattle.laws.specs.Good.{Fit, Seated, Good}
 pub use Rattle.laws.proofs.Choice.{clash}
 use Rattle.laws.proofs.Bytes.{length-store}
+use Rattle.laws.proofs.Seated.{safe}
 use Rattle.laws.proofs.Access.{Absent, absent, legal, permits, illegal, reads}
 use Rattle.laws.proofs.Stores.{entry-kept, rights-kept, bytes-kept}
 use Rattle.laws.proofs.Agree.{address, Both, halts, misses-code, misses-data, sets, stores, traps, attempt-both}
@@ -115,7 +115,7 @@ module _ (p : State) (g : Good p) (pcs : Pcs) where
     fit = subst⁻¹ (λ (n : ℕ). Fit (p .machine .shape) n) (length-store (size width) (p .memory .main) i v) (g .fit);
     whole = g .whole;
     seated = seated-over (p .machine .shape) (p .machine .book) (p .memory .main) (store (size width) (p .memory .main) i v)
-        (entry-kept (p .machine .shape) (p .machine .book) (p .memory) (g .fit) (g .seated) width va i v a q) (g .seated);
+        (entry-kept (p .machine .shape) (p .memory .main) (safe p g) width va i v a q) (g .seated);
     zero = g .zero;
   }
 
@@ -127,4 +127,4 @@ module _ (p : State) (g : Good p) (pcs : Pcs) where
   store-flat width va i v a q =
       ap₂ {C = Flat} (λ bytes rights. record { gpr = p .machine .gpr; pcs = pcs; bytes = bytes; rights = rights })
       (bytes-kept (p .machine .shape) (p .machine .book) (p .memory) (g .fit) (g .seated) width va i v a q)
-      (rights-kept (p .machine .shape) (p .machine .book) (p .memory) (g .fit) (g .seated) width va i v a q)
+      (rights-kept (p .machine .shape) (p .memory .main) (safe p g) width va i v a q)

@@ -16,6 +16,7 @@ use Rattle.laws.specs.Good.{Good}
 use Rattle.laws.specs.Mapped.{leaves, mapStep}
 use Rattle.laws.specs.Demand2.{flatOf, Right}
 use Rattle.laws.specs.Named.{Off}
+use Rattle.laws.proofs.Seated.{safe}
 use Rattle.laws.proofs.Stores.{store-off}
 use Rattle.laws.proofs.Size.{same-size}
 use Rattle.laws.proofs.Agree.{Halts, at-memory, at-alignment, at-word, halts, misses-code, misses-data, sets, stores, traps}
@@ -66,7 +67,7 @@ settled c g again t t′ (stores width va i v a q) e n = record {
   good = store-good (c .state) g _ width va i v a q;
   shape = refl;
   loads = refl;
-  off = store-off (c .state .machine .shape) (c .state .machine .book) (c .state .memory) (g .fit) (g .seated) width va i v a q;
+  off = store-off (c .state .machine .shape) (c .state .memory .main) (safe (c .state) g) width va i v a q;
   swap = refl;
   unlimited = λ n d q. clash (cc);
 }

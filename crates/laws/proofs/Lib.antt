@@ -14,6 +14,7 @@ pub mod Load
 pub mod Agree
 pub mod Simulate
 pub mod Attempt
+pub mod Kept
 pub mod Third
 pub mod Size
 pub mod Instruction

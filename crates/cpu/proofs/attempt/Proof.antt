@@ -14,28 +14,28 @@ returns c = transfer-odd _ _ _ _ false word _ _ (search needs) ∙ fetch _ _ _ _
 word-at-requires : tie.Need-word-at-requires
 word-at-requires c κs =
     let here = c .before .before in
-    inside _ _ (here .before .before .before .before .before .before .pre) false word _ _ (here .before .before .locate .ensures)
+    inside _ _ (here .before .before .before .before .before .before .pre .0) false word _ _ (here .before .before .reach .ensures)
     _ (here .a .given .1) (search needs)
 
 obey-requires : tie.Need-obey-requires
 obey-requires c κs =
     let start = c .before .before .before .before .before .before .before .before .before .before .before .before .before in
-    (start .pre, register-below _ _ _ _ (c .before .before .plan .ensures))
+    (start .pre .0, register-below _ _ _ _ (c .before .before .plan .ensures))
 
 returns-2 : tie.Need-returns-2
 returns-2 c =
-    transfer-illegal _ _ _ _ false word _ _ (search needs) _ (c .before .before .locate .ensures) (c .enum-told .given .1)
+    transfer-illegal _ _ _ _ false word _ _ (search needs) _ (c .before .before .reach .ensures) (c .enum-told .given .1)
     ∙ fetch _ _ _ _
 
 returns-3 : tie.Need-returns-3
 returns-3 c =
-    transfer-fault _ _ _ _ false word _ _ (search needs) _ (c .before .before .locate .ensures) (c .enum-told2 .given .1)
+    transfer-fault _ _ _ _ false word _ _ (search needs) _ (c .before .before .reach .ensures) (c .enum-told2 .given .1)
     ∙ fetch _ _ _ _
 
 returns-4 : tie.Need-returns-4
 returns-4 c =
     let here = c .before .before .before .before .before .before .before .before .before .before in
-    attempt-at _ _ _ _ (search needs) _ (here .before .before .locate .ensures) _ (here .a .given .1) _
+    attempt-at _ _ _ _ (search needs) _ (here .before .before .reach .ensures) _ (here .a .given .1) _
     (c .before .before .before .before .before .before .before .word-at .ensures) _
     (c .before .before .before .before .before .plan .ensures) _ (c .before .before .obey .ensures)
 

@@ -1,0 +1,62 @@
+// The code page: where the page stands that is being executed, so that a fetch on it need not ask the table again.
+use model::Access;
+use model::MainPage;
+use model::Shape;
+use model::VirtualPage;
+use paging::pages;
+use paging::table;
+ghost use mathlib.Core.Path.{_≡_};
+ghost use mathlib.Core.Bool.{false};
+ghost use lib.Dec.{eqb};
+ghost use lib.ListN.{length};
+ghost use Rattle.model.specs.Pages.{pageOf};
+ghost use Rattle.model.specs.Translate.{translate};
+ghost use Rattle.laws.specs.Good.{Fit};
+ghost use Rattle.cpu.specs.Found.{Found};
+
+pub struct CodePage {
+    pub page: VirtualPage,
+    pub frame: MainPage,
+}
+
+// A page number that no address has: addresses end below page 2^20.
+const NOWHERE: u32 = 1048576;
+
+// va is on the code page.
+pub fn on(c: CodePage, va: u32) -> bool
+    ensures { λ r. ⌜ r ≡ eqb (pageOf va .0) (c .page .0) ⌝ }
+{
+    let x = pages::page_of(va);
+    let y = c.page;
+    x.0 == y.0
+}
+
+// Where the page of va stands; nowhere, if it may not be read or is not resident.
+pub fn find(s: Shape, m: &[u8], va: u32) -> CodePage
+    requires { ⌜ Fit s (length (now m)) ⌝ }
+    ensures { λ r. ⌜ Found s (now (m .entry)) r ⌝ }
+{
+    let x = pages::page_of(va);
+    let a = table::locate(s, m, va, false);
+    match a {
+        Access::At(_) => CodePage {
+            page: x,
+            frame: pages::ppx(table::entry(s, m, x)),
+        },
+        _ => CodePage {
+            page: VirtualPage(NOWHERE),
+            frame: MainPage(0),
+        },
+    }
+}
+
+// The fetch at va: on the code page it is in that frame, elsewhere where the table says.
+pub(crate) fn reach(s: Shape, m: &[u8], c: CodePage, va: u32) -> Access
+    requires { ⌜ Fit s (length (now m)) × Found s (now m) c ⌝ }
+    ensures { λ r. ⌜ r ≡ translate s (now (m .entry)) false va ⌝ }
+{
+    if on(c, va) {
+        return Access::At(pages::main_at(c.frame, va));
+    }
+    table::locate(s, m, va, false)
+}

@@ -2,7 +2,7 @@
 -- record it hands back, and every lent byte afterwards.
 use mathlib.Core.Bool.{Bool, true, false, _&&_}
 use mathlib.Core.List.{List, [], _∷_}
-use Prim.Native.Nat.{ℕ, suc, _+_, _*_}
+use Prim.Native.Nat.{ℕ, suc, _+_}
 use lib.Dec.{leb, ltb}
 use lib.ListN.{length, set}
 use Rattle.model.specs.Choice.{if_then_else_, everyBelow, listBelow}

@@ -1,11 +1,9 @@
 -- Section "Console images", its end: what the program writes, byte by byte, for what it reads.
-use mathlib.Core.Bool.{Bool, true, false}
 use mathlib.Core.List.{List, [], _∷_, _++_}
 use Prim.Native.Nat.{ℕ, zero, suc, _+_, _*_, _/_, _%_}
 use lib.Dec.{eqb, leb, ltb}
 use lib.ListN.{length, replicate}
 use Rattle.model.specs.Choice.{if_then_else_}
-use Rattle.model.specs.State.{State}
 use Rattle.model.specs.Answers.{verdictNumber, RunNumbers}
 use Rattle.model.specs.Calls.{unless, RunOutcome, runCall, StateOutcome}
 use Rattle.model.specs.Image.{ptlOf, imageVerdict, loadCall}

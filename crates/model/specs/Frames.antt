@@ -1,6 +1,6 @@
 -- Section "Table and frame book": the frame book is b (frames used), hand, and B[0..31]. Here it stands apart from memory: which
 -- frame a load takes, and the book after it.
-use mathlib.Core.Bool.{Bool, true, false, _||_}
+use mathlib.Core.Bool.{Bool, false, _||_}
 use Prim.Native.Nat.{ℕ, zero, suc, _+_, _%_}
 use lib.Dec.{ltb, eqb}
 use lib.ListN.{getD, set, replicate}

@@ -1,6 +1,4 @@
 -- Section "One attempt": "The handler loads page y." What it does to the two memories, and to the machine.
-use mathlib.Core.Bool.{Bool, true, false}
-use mathlib.Core.List.{List}
 use Prim.Native.Nat.{ℕ}
 use Rattle.model.specs.Choice.{if_then_else_}
 use Rattle.model.specs.Pages.{frameAt, swapOf, mainPage, withMainPage, swapPage, withSwapPage}

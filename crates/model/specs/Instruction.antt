@@ -1,7 +1,7 @@
 -- Section "Instructions": what an instruction word asks for, by its tables, row by row. It does not speak of memory.
-use mathlib.Core.Bool.{Bool, true, false, _&&_}
+use mathlib.Core.Bool.{true, false, _&&_}
 use mathlib.Core.List.{List}
-use Prim.Native.Nat.{ℕ, _+_, _-_, _*_, _/_, _%_, _^_}
+use Prim.Native.Nat.{ℕ, _-_, _*_, _%_}
 use lib.Dec.{eqb, leb}
 use lib.Bits.{bitAnd, bitOr, bitXor}
 use lib.ListN.{getD, set}

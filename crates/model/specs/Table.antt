@@ -1,5 +1,5 @@
 -- Section "Table and frame book": an entry has bits 31–12 ppx, bit 2 r, bit 1 w, bit 0 v.
-use mathlib.Core.Bool.{Bool, true, false}
+use mathlib.Core.Bool.{Bool}
 use mathlib.Core.List.{List}
 use Prim.Native.Nat.{ℕ, _+_, _*_}
 use lib.Dec.{eqb}

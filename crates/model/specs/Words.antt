@@ -1,5 +1,5 @@
 -- Words of 32 bits, as numbers below 2^32: "Sums and differences of registers and addresses go round at 2^32".
-use mathlib.Core.Bool.{Bool, true, false}
+use mathlib.Core.Bool.{Bool}
 use Prim.Native.Nat.{ℕ, _+_, _-_, _*_, _/_, _%_, _^_}
 use lib.Dec.{ltb, eqb}
 use Rattle.model.specs.Choice.{if_then_else_}

@@ -2,7 +2,7 @@
 -- and the real run. The checker computes it.
 use mathlib.Core.Bool.{Bool, true, false, _&&_}
 use mathlib.Core.List.{List, [], _∷_, _++_}
-use Prim.Native.Nat.{ℕ, zero, suc, _+_, _-_, _*_, _/_, _%_, _^_}
+use Prim.Native.Nat.{ℕ, _+_, _-_, _*_, _%_, _^_}
 use lib.Dec.{T, eqb}
 use lib.ListN.{replicate}
 use Rattle.model.specs.Choice.{passes, everyBelow, listBelow}
@@ -10,17 +10,15 @@ use Rattle.model.specs.Words.{minus}
 use Rattle.model.specs.Bytes.{number, store, page, withPage}
 use Rattle.model.specs.Table.{entry, withEntry}
 use Rattle.model.specs.Frames.{advanced, among, resident, emptyBook, pageIn}
-use Rattle.model.specs.State.{Memory, State}
+use Rattle.model.specs.State.{State}
 use Rattle.model.specs.Sound.{fits, sound}
 use Rattle.model.specs.Translate.{translate}
 use Rattle.model.specs.Instruction.{plan, register, immediate}
 use Rattle.model.specs.Attempt.{transfer, loading, storing, obey, attempt}
 use Rattle.model.specs.Handler.{out, into, loaded, load}
 use Rattle.model.specs.Run.{follow, run, attempts, instruction}
-use Rattle.model.specs.Answers.{RunNumbers}
 use Rattle.model.specs.Calls.{machineVerdict, runVerdict, RunOutcome, runCall}
 use Rattle.model.specs.declared.Shape.{Shape}
-use Rattle.model.specs.declared.Pcs.{Pcs}
 use Rattle.model.specs.declared.Access.{Access}
 use Rattle.model.specs.declared.Access.the-variants.{Illegal, Fault, At}
 use Rattle.model.specs.declared.Plan.{Plan}

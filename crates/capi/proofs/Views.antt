@@ -23,7 +23,7 @@ use Rattle.model.specs.declared.Refusal.the-variants.{Bound, Unsound, Rights, T
 use Rattle.model.specs.declared.Verdict.{Verdict}
 use Rattle.model.specs.declared.Verdict.the-variants.{Granted, Refused}
 use Rattle.laws.proofs.Bytes.{length-page}
-use Rattle.machine.specs.Home.{Lent}
+use Rattle.host.specs.Home.{Lent}
 use Rattle.machine.proofs.Verdicts.{view-leans}
 use Rattle.capi.specs.Words.{machineOf}
 use Rattle.capi.specs.Calls as calls

@@ -1,5 +1,3 @@
-pub mod Bytes
-pub mod Rights
 pub mod Verdicts
 pub mod Length
 pub mod Outcomes

@@ -1,31 +1,20 @@
 -- The outcome of each call, by its verdict.
-use mathlib.Core.Path.{_≡_, refl, ap, _∙_}
+use mathlib.Core.Path.{_≡_, refl}
 use mathlib.Core.Bool.{true, false}
 use mathlib.Core.List.{List, []}
-use Prim.Native.Nat.{ℕ, _+_, _-_, _*_, _≤_, _<_}
-use native.Mathlib.Omega.{arith}
-use lib.ListN.{length, set, take, drop}
+use Prim.Native.Nat.{ℕ, _≤_, _<_}
+use lib.ListN.{length, set}
 use borrow.Author.Tests.{le-leb, lt-leb}
-use Rattle.model.specs.Bytes.{page}
-use Rattle.model.specs.Pages.{mainAt, swapAt, offset}
 use Rattle.model.specs.State.{State, Memory, state}
 use Rattle.model.specs.Answers.{verdictNumber}
 use Rattle.model.specs.Calls.{hostVerdict, bytesFrom, readCall, bytesTo, writeCall, viewVerdict, pageBytes, viewBy, viewCall, replyVerdict, replyCall}
-use Rattle.model.specs.declared.Shape.{Shape}
 use Rattle.model.specs.declared.Machine.{Machine}
 use Rattle.model.specs.declared.VirtualPage.{VirtualPage}
-use Rattle.model.specs.declared.MainPage.{MainPage}
-use Rattle.model.specs.declared.SwapPage.{SwapPage}
 use Rattle.model.specs.declared.Refusal.{Refusal}
 use Rattle.model.specs.declared.Refusal.the-variants.{TooMuch}
 use Rattle.model.specs.declared.Verdict.{Verdict}
 use Rattle.model.specs.declared.Verdict.the-variants.{Granted, Refused}
 use Rattle.paging.specs.Ready.{memory}
-use Rattle.words.proofs.Copies.{part-page}
-use Rattle.machine.specs.declared.home.Home.{Home}
-use Rattle.machine.specs.declared.home.Home.the-variants.{Main, Swap}
-use Rattle.machine.specs.Home.{homeOf, Lent}
-use Rattle.machine.proofs.Bytes.{InMain, InSwap, in-main, in-swap}
 
 -- ---- host read
 module _ (p : State) (va : ℕ) (buffer : List ℕ) (v : Verdict) (e : v ≡ hostVerdict false p va (length buffer)) where
@@ -68,36 +57,6 @@ module _ (p : State) (x : VirtualPage) (v : Verdict) (e : v ≡ viewVerdict p x)
   pub view-done : v ≡ Granted → (b : List ℕ) → b ≡ pageBytes (p .machine .shape) (p .memory) x → b ≡ viewCall p x .part
   unfolding viewCall
   view-done h b q = simp (← e, h, q)
-
--- the part of the memory where the page is
-module _ (s : Shape) (main swap : List ℕ) (lent : Lent s main (length swap)) (x : VirtualPage) (inside : x .0 < s .ptl)
-    (h : Home) (e : h ≡ homeOf s main x) where
-  module _ (p : MainPage) (hp : h ≡ Main p) (i : ℕ) (hi : i ≡ mainAt p (offset 0)) where
-    here : InMain s main x p
-    here = in-main s main x h e p hp
-
-    pub main-within : i + 4096 ≤ length main
-    main-within =
-        omega (arith, ap (λ (q : MainPage). q .0) (here .at), lent .safe .framed x inside (here .here) .1, lent .safe .fit .frames-in, lent .safe .fit .main-long)
-
-    pub main-part : take (i + 4096 - i) (drop i main) ≡ pageBytes s (memory main swap) x
-    unfolding pageBytes
-    main-part =
-        let k : i ≡ 4096 * p .0 = omega arith in
-        rw k (part-page main (p .0) ∙ ap (λ (q : MainPage). page main (q .0)) (here .at) ∙ simp (here .here))
-
-  module _ (p : SwapPage) (hp : h ≡ Swap p) (i : ℕ) (hi : i ≡ swapAt p (offset 0)) where
-    away : InSwap s main x p
-    away = in-swap s main x h e p hp
-
-    pub swap-within : i + 4096 ≤ length swap
-    swap-within = omega (arith, ap (λ (q : SwapPage). q .0) (away .at), lent .whole)
-
-    pub swap-part : take (i + 4096 - i) (drop i swap) ≡ pageBytes s (memory main swap) x
-    unfolding pageBytes
-    swap-part =
-        let k : i ≡ 4096 * p .0 = omega arith in
-        rw k (part-page swap (p .0) ∙ ap (λ (q : SwapPage). page swap (q .0)) (away .at) ∙ simp (away .away))
 
 -- ---- reply
 module _ (m : Machine) (i v : ℕ) where

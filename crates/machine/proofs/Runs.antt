@@ -3,7 +3,7 @@ use mathlib.Core.Path.{_≡_, _∙_}
 use Prim.Native.Nat.{ℕ, _≤_, _<_}
 use lib.Dec.{leb}
 use lib.ListN.{length}
-use borrow.Author.Tests.{leb-true, le-leb, lt-leb}
+use borrow.Author.Tests.{le-leb, lt-leb}
 use Rattle.model.specs.State.{State}
 use Rattle.model.specs.Run.{run, instruction, uncounted}
 use Rattle.model.specs.Calls.{unless, machineVerdict, runVerdict, runOutcome, reported, runCall}
@@ -14,7 +14,8 @@ use Rattle.model.specs.declared.Verdict.the-variants.{Granted, Refused}
 use Rattle.model.specs.declared.RunAnswer.the-variants.{NotRun}
 use Rattle.laws.specs.Good.{Good}
 use Rattle.laws.proofs.Sound.{good-of}
-use Rattle.machine.proofs.Verdicts.{unless-granted, passed, granted-first}
+use Rattle.laws.proofs.Granted.{machine-granted, run-limit}
+use Rattle.machine.proofs.Verdicts.{granted-first}
 
 module _ (p : State) (n : ℕ) where
   -- refusal 4, by the verdict v on the machine
@@ -38,7 +39,4 @@ module _ (p : State) (n : ℕ) where
   -- what a run that is not refused may lean on
   pub run-leans : length (p .machine .book .held) ≡ 32 → runVerdict p n ≡ Granted → Good p × (n ≤ 1000000)
   unfolding runVerdict
-  run-leans array e =
-      let a = passed p _ e in
-      let b = unless-granted (leb n 1000000) TooMuch Granted (a .1) in
-      (good-of p array (a .0 .fitting) (a .0 .sounding), leb-true _ _ (b .0))
+  run-leans array e = let k = machine-granted p _ e in (good-of p array (k .0) (k .1), run-limit p n e)

@@ -1,45 +1,26 @@
 -- The refusals of a call in their order, and what a machine that is not refused has.
-use mathlib.Core.Path.{_≡_, refl, sym, _∙_}
+use mathlib.Core.Path.{_≡_, sym, _∙_}
 use mathlib.Core.Bool.{Bool, true, false, not}
 use mathlib.Core.List.{List}
-use Prim.Native.Nat.{ℕ, _≤_, _<_}
+use Prim.Native.Nat.{ℕ, _<_}
 use lib.ListN.{length}
-use borrow.Author.Tests.{le-leb, lt-leb, not-true, not-false}
+use borrow.Author.Tests.{not-true, not-false}
 use Rattle.model.specs.State.{State, state}
 use Rattle.model.specs.Sound.{fits, sound}
-use Rattle.model.specs.Calls.{unless, machineVerdict, permitted, hostVerdict, viewable, viewVerdict}
-use Rattle.model.specs.declared.Shape.{Shape}
+use Rattle.model.specs.Calls.{unless, machineVerdict, hostVerdict, viewable, viewVerdict}
 use Rattle.model.specs.declared.Machine.{Machine}
 use Rattle.model.specs.declared.VirtualPage.{VirtualPage}
 use Rattle.model.specs.declared.Refusal.{Refusal}
-use Rattle.model.specs.declared.Refusal.the-variants.{Bound, Unsound, Rights, TooMuch}
+use Rattle.model.specs.declared.Refusal.the-variants.{Bound, Unsound, Rights}
 use Rattle.model.specs.declared.Verdict.{Verdict}
 use Rattle.model.specs.declared.Verdict.the-variants.{Granted, Refused}
 use Rattle.laws.specs.Good.{Fit, Good}
 use Rattle.laws.proofs.Sound.{fit-of, good-of}
 use Rattle.laws.proofs.Seated.{safe}
-use Rattle.laws.proofs.Attempt.{clash}
 use Rattle.laws.proofs.Host.{InTable}
-use Rattle.laws.proofs.Granted.{host-inside, view-inside}
+use Rattle.laws.proofs.Granted.{machine-granted, refused-first as refused-before, host-inside, view-inside}
 use Rattle.paging.specs.Ready.{memory}
-use Rattle.machine.specs.Home.{Lent}
-use Rattle.machine.specs.Promises.{transferVerdict}
-
--- ---- what is granted passed its tests
-pub unless-granted : (t : Bool) (r : Refusal) (after : Verdict) → unless t r after ≡ Granted → (t ≡ true) × (after ≡ Granted)
-unless-granted true r after e = (refl, e)
-unless-granted false r after e = clash (cc)
-
-pub record Passed (p : State) : Type 0 where
-  pub fitting : fits (p .machine .shape) (p .memory) ≡ true
-  pub sounding : sound (p .machine) (p .memory .main) ≡ true
-
-pub passed : (p : State) (after : Verdict) → machineVerdict p after ≡ Granted → Passed p × (after ≡ Granted)
-unfolding machineVerdict
-passed p after e =
-    let a = unless-granted (fits (p .machine .shape) (p .memory)) Bound _ e in
-    let b = unless-granted (sound (p .machine) (p .memory .main)) Unsound after (a .1) in
-    (record { fitting = a .0; sounding = b .0 }, b .1)
+use Rattle.host.specs.Home.{Lent}
 
 -- ---- refusals 1 and 2
 module _ (m : Machine) (main swap : List ℕ) (f : Bool) (e : f ≡ fits (m .shape) (memory main swap)) where
@@ -64,32 +45,15 @@ module _ (m : Machine) (main swap : List ℕ) (f : Bool) (e : f ≡ fits (m .sha
 module _ (p : State) (v : Verdict) (e : v ≡ machineVerdict p Granted) where
   pub refused-first : (r : Refusal) → v ≡ Refused r → (after : Verdict) → Refused r ≡ machineVerdict p after
   unfolding machineVerdict
-  refused-first r h after = pick (fits (p .machine .shape) (p .memory)) (sound (p .machine) (p .memory .main)) (sym h ∙ e)
-    where
-      pick : (a b : Bool) → Refused r ≡ unless a Bound (unless b Unsound Granted) → Refused r ≡ unless a Bound (unless b Unsound after)
-      pick false b q = q
-      pick true false q = q
-      pick true true q = clash (cc)
+  refused-first r h after = sym (refused-before (fits (p .machine .shape) (p .memory)) (sound (p .machine) (p .memory .main)) Bound Unsound r after (sym e ∙ h))
 
   module _ (h : v ≡ Granted) where
     pub granted-first : (after : Verdict) → after ≡ machineVerdict p after
     unfolding machineVerdict
-    granted-first after = let k : Passed p = passed p Granted (sym e ∙ h) .0 in simp (k .fitting, k .sounding)
+    granted-first after = let k = machine-granted p Granted (sym e ∙ h) in simp (k .0, k .1)
 
     pub passed-fit : Fit (p .machine .shape) (length (p .memory .main))
-    passed-fit = fit-of (p .machine .shape) (p .memory) (passed p Granted (sym e ∙ h) .0 .fitting) .0
-
--- ---- refusals 4 and 3
-module _ (writing : Bool) (s : Shape) (main : List ℕ) (va n : ℕ) where
-  pub too-much : 256 < n → Refused TooMuch ≡ transferVerdict writing s main va n
-  too-much h = simp (lt-leb _ _ h)
-
-  module _ (h : n ≤ 256) (r : Bool) (e : r ≡ permitted writing s main va n) where
-    pub rights-lack : not r ≡ true → Refused Rights ≡ transferVerdict writing s main va n
-    rights-lack k = simp (le-leb _ _ h, ← e, not-true r k)
-
-    pub all-right : not r ≡ false → Granted ≡ transferVerdict writing s main va n
-    all-right k = simp (le-leb _ _ h, ← e, not-false r k)
+    passed-fit = fit-of (p .machine .shape) (p .memory) (machine-granted p Granted (sym e ∙ h) .0) .0
 
 -- ---- refusal 3 of a view
 module _ (p : State) (v : Verdict) (e : v ≡ machineVerdict p Granted) (h : v ≡ Granted) (x : VirtualPage)
@@ -108,15 +72,18 @@ module _ (p : State) (v : Verdict) (e : v ≡ machineVerdict p Granted) (h : v �
 
 -- ---- what a call that is not refused may lean on
 module _ (p : State) (array : length (p .machine .book .held) ≡ 32) where
-  lent-of : Passed p → Lent (p .machine .shape) (p .memory .main) (length (p .memory .swap))
-  lent-of k = let g : Good p = good-of p array (k .fitting) (k .sounding) in record { safe = safe p g; whole = g .whole }
+  lent-of : (v : Verdict) → machineVerdict p v ≡ Granted → Lent (p .machine .shape) (p .memory .main) (length (p .memory .swap))
+  lent-of v e =
+      let k = machine-granted p v e in
+      let g : Good p = good-of p array (k .0) (k .1) in
+      record { safe = safe p g; whole = g .whole }
 
   pub host-leans : (writing : Bool) (va n : ℕ) (v : Verdict) → v ≡ hostVerdict writing p va n → v ≡ Granted
       → Lent (p .machine .shape) (p .memory .main) (length (p .memory .swap)) × InTable (p .machine .shape) va n
   unfolding hostVerdict
-  host-leans writing va n v e h = (lent-of (passed p _ (sym e ∙ h) .0), host-inside writing p va n (sym e ∙ h))
+  host-leans writing va n v e h = (lent-of _ (sym e ∙ h), host-inside writing p va n (sym e ∙ h))
 
   pub view-leans : (x : VirtualPage) (v : Verdict) → v ≡ viewVerdict p x → v ≡ Granted
       → Lent (p .machine .shape) (p .memory .main) (length (p .memory .swap)) × (x .0 < p .machine .shape .ptl)
   unfolding viewVerdict
-  view-leans x v e h = (lent-of (passed p _ (sym e ∙ h) .0), view-inside p x (sym e ∙ h))
+  view-leans x v e h = (lent-of _ (sym e ∙ h), view-inside p x (sym e ∙ h))

@@ -1,11 +1,9 @@
 // The calls that a host makes on a machine: run, host read, host write, page view and reply. They ask nothing of their caller: each
 // tests what it is handed and names its complete outcome.
-mod home;
-mod permission;
-mod transfer;
 pub mod verdict;
-mod view;
 
+use host::transfer;
+use host::view;
 use model::Handed;
 use model::Machine;
 use model::Refusal;

@@ -1,5 +1,5 @@
 // What a call refuses: "The first that applies in the order 1, 2, 4, 3 is given".
-use crate::permission;
+use host::permission;
 use model::Machine;
 use model::Refusal;
 use model::Verdict;

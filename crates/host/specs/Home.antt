@@ -1,0 +1,19 @@
+-- Where the bytes of a page are, "as its entry says", and what code that goes there needs of a machine.
+use mathlib.Core.List.{List}
+use Prim.Native.Nat.{ℕ}
+use Rattle.model.specs.Choice.{if_then_else_}
+use Rattle.model.specs.Pages.{swapOf}
+use Rattle.model.specs.Table.{entry, ppx, valid}
+use Rattle.model.specs.declared.Shape.{Shape}
+use Rattle.model.specs.declared.VirtualPage.{VirtualPage}
+use Rattle.laws.specs.Good.{Safe, SwapLong}
+use Rattle.host.specs.declared.home.Home.{Home}
+use Rattle.host.specs.declared.home.Home.the-variants.{Main, Swap}
+
+unfoldable pub homeOf : Shape → List ℕ → VirtualPage → Home
+homeOf s main x = if valid (entry s main x) then Main (ppx (entry s main x)) else Swap (swapOf s x)
+
+-- both memories hold what the table names
+pub record Lent (s : Shape) (main : List ℕ) (swapLength : ℕ) : Type 0 where
+  pub safe : Safe s main
+  pub whole : SwapLong s swapLength

@@ -1,0 +1,31 @@
+// The part of a lent memory that a page view hands back.
+use crate::home;
+use crate::home::Home;
+use model::Shape;
+use model::VirtualPage;
+use paging::pages;
+ghost use mathlib.Core.Path.{_≡_};
+ghost use Prim.Native.Nat.{_<_};
+ghost use lib.ListN.{length};
+ghost use Rattle.model.specs.Calls.{pageBytes};
+ghost use Rattle.paging.specs.Ready.{memory};
+ghost use Rattle.host.specs.Home.{Lent};
+
+// "from main memory or from swap as its entry says"
+pub fn page_part<'a>(s: Shape, main: &'a [u8], swap: &'a [u8], page: VirtualPage) -> &'a [u8]
+    requires { ⌜ Lent s (now main) (length (now swap)) × (page .0 < s .ptl) ⌝ }
+    ensures { λ r. ⌜ now r ≡ pageBytes s (memory (now (main .entry)) (now (swap .entry))) page ⌝ }
+{
+    match home::home_of(s, main, page) {
+        Home::Main(p) => {
+            let start = pages::main_at(p, 0);
+            let end = start + 4096;
+            &main[start..end]
+        }
+        Home::Swap(p) => {
+            let start = pages::swap_at(p, 0);
+            let end = start + 4096;
+            &swap[start..end]
+        }
+    }
+}

@@ -1,11 +1,11 @@
 -- Laws of the record's layout: words copied one by one to and from their places, and the whole record as its four parts.
-use mathlib.Core.Path.{_≡_, refl, sym, ap, _∙_}
+use mathlib.Core.Path.{_≡_, refl, ap, _∙_}
 use mathlib.Core.List.{List, [], _++_, append-nil}
-use Prim.Native.Nat.{ℕ, suc, _+_, _≤_, _<_}
+use Prim.Native.Nat.{ℕ, _+_, _≤_, _<_}
 use native.Mathlib.Numerals.{add-one}
 use native.Mathlib.Omega.{arith}
 use lib.ListN.{length, getD, set, take, drop, length-append, length-take, length-drop, length-map, drop-of-length-le, List·getD-map}
-use lib.Seq.{drop-cons, take-suc, set-at, append-snoc, length-take-le, take-all, take-length, getD-take, getD-drop, take-append-seam, drop-append-add, paste, paste-suc, sets, sets-eq}
+use lib.Seq.{take-length, getD-take, getD-drop, take-append-seam, drop-append-add, paste, paste-suc, sets, sets-eq}
 use Rattle.model.specs.Pages.{virtual}
 use Rattle.model.specs.declared.VirtualPage.{VirtualPage}
 use Rattle.capi.specs.Words.{part, over, pagesOf, numbersOf}
@@ -22,17 +22,6 @@ length-pages l e = length-map (part 8 32 l) virtual ∙ length-part 8 32 l (omeg
 
 pub page-at : (l : List ℕ) (i : ℕ) → i < 32 → getD (pagesOf l) i (virtual 0) ≡ virtual (getD l (8 + i) 0)
 page-at l i h = List·getD-map virtual (part 8 32 l) i 0 ∙ ap virtual (part-at 8 32 l i h)
-
--- i elements of s have come to d
-module _ {A : Type 0} (d s : List A) (i : ℕ) where
-  pub come-more : (z : A) → i < length d → i < length s → (v : A) → getD s i z ≡ v
-      → set (take i s ++ drop i d) i v ≡ take (i + 1) s ++ drop (i + 1) d
-  come-more z hd hs v e =
-      rw (drop-cons d i z, add-one, take-suc s i z, e)
-      (set-at (take i s) _ _ _ i (length-take-le i s (omega arith)) ∙ sym (append-snoc (take i s) v (drop (suc i) d)))
-
-  pub come-all : length s ≤ i → length d ≤ i → take i s ++ drop i d ≡ s
-  come-all hs hd = rw (take-all i s hs, drop-of-length-le d hd) (append-nil s)
 
 -- ---- a part written
 pub number-at : (b : List VirtualPage) (i : ℕ) → getD (numbersOf b) i 0 ≡ getD b i (virtual 0) .0

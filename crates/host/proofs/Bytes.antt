@@ -1,12 +1,12 @@
 -- Bytes of the flat memory: where one is, and what a transfer leaves after i of them.
 use mathlib.Core.Path.{_≡_, refl, sym, ap, _∙_}
 use mathlib.Core.Bool.{Bool, true, false}
-use mathlib.Core.List.{List, _++_}
+use mathlib.Core.List.{List}
 use Prim.Native.Nat.{ℕ, _+_, _*_, _%_, _≤_, _<_}
 use native.Mathlib.Nat.{add-zero, add-suc}
 use native.Mathlib.Numerals.{add-one}
 use native.Mathlib.Omega.{arith}
-use lib.ListN.{length, getD, set, take, drop, length-set, drop-of-length-le}
+use lib.ListN.{length, getD, set, drop, length-set, drop-of-length-le}
 use lib.Seq.{drop-cons, getD-set-other}
 use borrow.Author.Tests.{eq-eqb, ne-eqb}
 use Rattle.model.specs.Pages.{pageOf, offset, mainAt, swapOf, swapAt, entryAt}
@@ -22,7 +22,7 @@ use Rattle.laws.proofs.Choice.{length-below, getD-below}
 use Rattle.laws.proofs.Bytes.{number-same}
 use Rattle.laws.proofs.Attempt.{clash}
 use Rattle.laws.proofs.Table.{flat-here, flat-away}
-use Rattle.words.proofs.Copies.{copied-step}
+use Rattle.words.proofs.Copies.{Copied, copied-next}
 use Rattle.paging.specs.Ready.{memory}
 use Rattle.host.specs.declared.home.Home.{Home}
 use Rattle.host.specs.declared.home.Home.the-variants.{Main, Swap}
@@ -149,13 +149,12 @@ module _ (s : Shape) (m : Memory) (va : ℕ) where
   unfolding bytesFrom
   length-from n = length-below n (λ k. flatByte s m (va + k))
 
-  -- i bytes have come to the buffer d
-  pub from-next : (d : List ℕ) (i b : ℕ) → i < length d → b ≡ flatByte s m (va + i)
-      → set (take i (bytesFrom s m va (length d)) ++ drop i d) i b ≡ take (i + 1) (bytesFrom s m va (length d)) ++ drop (i + 1) d
+  -- i bytes have come to the buffer d, which was d₀
+  pub from-next : (d₀ d : List ℕ) (i b : ℕ) → Copied d₀ (bytesFrom s m va (length d₀)) d i → i < length d₀ → b ≡ flatByte s m (va + i)
+      → Copied d₀ (bytesFrom s m va (length d₀)) (set d i b) (i + 1)
   unfolding bytesFrom
-  from-next d i b h e =
-      ap (set (take i (bytesFrom s m va (length d)) ++ drop i d) i) (e ∙ sym (getD-below (length d) (λ k. flatByte s m (va + k)) i 0 h))
-      ∙ copied-step d (bytesFrom s m va (length d)) i h (omega (arith, length-from (length d)))
+  from-next d₀ d i b u h e =
+      copied-next d₀ _ d i u h (omega (arith, length-from (length d₀))) 0 b (e ∙ sym (getD-below (length d₀) (λ k. flatByte s m (va + k)) i 0 h))
 
 -- i bytes are written, and the rest of them, written to the memories as they are, comes to all of them
 pub record Writing (s : Shape) (main₀ swap₀ : List ℕ) (va : ℕ) (bytes main swap : List ℕ) (i : ℕ) : Type 0 where

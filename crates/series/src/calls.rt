@@ -12,13 +12,26 @@ ghost use lib.ListN.{length};
 ghost use Rattle.model.specs.State.{state};
 ghost use Rattle.model.specs.Pages.{virtual};
 ghost use Rattle.model.specs.Calls as calls;
+ghost use Rattle.model.specs.Answers.{verdictNumber};
 ghost use Rattle.text.specs.Text.{Written};
 ghost use Rattle.series.specs.Answers as answers;
+ghost use Rattle.series.specs.Lines.{wordLine};
 
 // The record afterwards, and how many bytes of the buffer the line has.
 pub(crate) struct Done {
     pub machine: Machine,
     pub filled: usize,
+}
+
+// The word of a call that answers nothing more, or its refusal.
+fn verdict_line(out: &mut [u8], verdict: Verdict, word: &[u8]) -> usize
+    requires { ⌜ (128 ≤ length (now out)) × (length (now word) ≤ 100) ⌝ }
+    ensures { λ r. ⌜ Written (now (out .exit)) r (answers.granted (verdictNumber verdict) (wordLine (now (word .entry)))) ⌝ }
+{
+    match verdict {
+        Verdict::Refused(refusal) => refused_line(out, refusal_number(refusal)),
+        Verdict::Granted => lines::word_line(out, word),
+    }
 }
 
 // `run N`
@@ -86,15 +99,9 @@ pub(crate) fn write(
     let handed = machine::host_write(m, main, swap, va, from);
     let after = handed.machine;
     let verdict = handed.verdict;
-    match verdict {
-        Verdict::Refused(refusal) => Done {
-            machine: after,
-            filled: refused_line(out, refusal_number(refusal)),
-        },
-        Verdict::Granted => Done {
-            machine: after,
-            filled: lines::word_line(out, b"write"),
-        },
+    Done {
+        machine: after,
+        filled: verdict_line(out, verdict, b"write"),
     }
 }
 
@@ -127,15 +134,9 @@ pub(crate) fn reply(m: Machine, register: u32, value: u32, out: &mut [u8]) -> Do
     let handed = machine::reply(m, register, value);
     let after = handed.machine;
     let verdict = handed.verdict;
-    match verdict {
-        Verdict::Refused(refusal) => Done {
-            machine: after,
-            filled: refused_line(out, refusal_number(refusal)),
-        },
-        Verdict::Granted => Done {
-            machine: after,
-            filled: lines::word_line(out, b"reply"),
-        },
+    Done {
+        machine: after,
+        filled: verdict_line(out, verdict, b"reply"),
     }
 }
 

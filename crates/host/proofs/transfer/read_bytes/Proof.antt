@@ -1,25 +1,23 @@
 -- `transfer::read_bytes`: after i turns the first i bytes have come.
-use mathlib.Core.List.{_++_}
-use mathlib.Core.Path.{_≡_, refl, ap, _∙_}
 use Prim.Native.Nat.{_≤_, _-_}
 use native.Mathlib.Omega.{arith}
-use lib.ListN.{length, take, drop, set, length-set}
+use lib.ListN.{length}
 use borrow.Author.Needs.{needs}
 use Rattle.model.specs.Calls.{bytesFrom}
-use Rattle.words.proofs.Copies.{copied-all}
+use Rattle.words.proofs.Copies.{Copied, copied-none, copied-all}
 use Rattle.paging.specs.Ready.{memory}
 use Rattle.host.proofs.Bytes.{from-next, length-from}
 use Rattle.host.proofs.transfer.read_bytes.Statement.{statement}
 use Rattle.host.proofs.transfer.read_bytes.Tie as tie
 
 abbrev Inv-loop : tie.InvT-loop
-Inv-loop s main swap va into₀ i₀ into i = (i ≤ length into₀) × (length into ≡ length into₀) × (into ≡ take i (bytesFrom s (memory main swap) va (length into₀)) ++ drop i into₀)
+Inv-loop s main swap va into₀ i₀ into i = (i ≤ length into₀) × Copied into₀ (bytesFrom s (memory main swap) va (length into₀)) into i
 
 abbrev μ-loop : tie.MeasureT-loop
 μ-loop s main swap va into₀ i₀ into i = length into₀ - i
 
 loop-holds : tie.Need-loop-holds Inv-loop μ-loop
-loop-holds c = (search needs, refl, refl)
+loop-holds c = (search needs, copied-none _ _)
 
 cast-flat-byte : tie.Need-cast-flat-byte Inv-loop μ-loop
 cast-flat-byte c = omega (arith, c .before .before .before .before .before .pre .1 (c .before .loop .i) (search needs), c .before .before .before .before .before .pre .0 .safe .fit .ptl-most)
@@ -32,19 +30,12 @@ flat-byte-requires c κs = (c .before .before .before .before .before .pre .0, c
 
 loop-again : tie.Need-loop-again Inv-loop μ-loop
 loop-again c =
-    let a = c .before .before .before .before .before .before .args in
-    let v = c .before .before .loop .inv in (
-      search needs,
-      simp length-set (v .1),
-      ap (λ d. set d (c .before .before .loop .i) (c .flat-byte .result)) (v .2)
-          ∙ from-next (a .s) (memory (a .main .now) (a .swap .now)) (a .va) (a .into .now) _ _ (search needs) (c .flat-byte .ensures),
-    )
+    (search needs, from-next _ _ _ _ _ _ _ (c .before .before .loop .inv .1) (search needs) (c .flat-byte .ensures))
 
 returns : tie.Need-returns Inv-loop μ-loop
 returns c =
     let a = c .before .before .before .before .before .args in
-    c .before .loop .inv .2
-    ∙ copied-all (a .into .now) _ (c .before .loop .i)
+    copied-all _ _ _ (c .before .loop .i) (c .before .loop .inv .1)
     (omega (arith, length-from (a .s) (memory (a .main .now) (a .swap .now)) (a .va) (length (a .into .now)))) (search needs)
 
 pub read-bytes-spec : {M : Type 1} → statement M

@@ -7,7 +7,7 @@ use borrow.Author.Needs.{needs}
 use lib.ListN.{length, take, drop}
 use Rattle.model.specs.Bytes.{page, withPage}
 use Rattle.laws.proofs.Bytes.{length-page, length-withPage}
-use Rattle.words.proofs.Copies.{copied-all}
+use Rattle.words.proofs.Copies.{all-come}
 use Rattle.image.proofs.Filled.{pages-step}
 use Rattle.image.proofs.memory.fill_swap.Statement.{statement}
 use Rattle.image.proofs.memory.fill_swap.Tie as tie
@@ -44,7 +44,7 @@ returns : tie.Need-returns Inv-loop μ-loop
 returns c =
     let k = c .before in
     let a = k .before .before .before .args in
-    k .loop .inv .2 ∙ copied-all (a .swap .now) (a .pages .now) (4096 * k .loop .x) (omega arith) (omega arith)
+    k .loop .inv .2 ∙ all-come (a .swap .now) (a .pages .now) (4096 * k .loop .x) (omega arith) (omega arith)
 
 pub fill-swap-spec : {M : Type 1} → statement M
 fill-swap-spec =

@@ -1,37 +1,18 @@
--- `calls::write`: refused, or the bytes are written.
+-- `calls::write`: the bytes are written, or it is refused.
 use mathlib.Core.Path.{ap}
-use Rattle.series.proofs.Answered.{written-as, verdict-refused, verdict-granted}
 use Rattle.model.specs.Calls.{StateOutcome}
+use Rattle.series.specs.Answers.{writeText}
+use Rattle.series.proofs.Answered.{written-as}
 use borrow.Author.Needs.{needs}
 use Rattle.series.proofs.calls.write.Statement.{statement}
 use Rattle.series.proofs.calls.write.Tie as tie
 
 returns : tie.Need-returns
 returns c =
-    let e = c .before .before .before .before .before .before .before .before .before .before .before .before .before .host-write
-    .ensures in (
-      written-as (c .before .before .refused-line .ensures)
-          (verdict-refused (c .before .before .before .before .before .before .before .before .before .before .before .before
-          .before .host-write .result .verdict) _ (ap (λ (o : StateOutcome). o .refused) e) _ (c .before .before .before
-          .before .before .before .verdict .given .1) (c .before .before .before .refusal-number .ensures)),
-      ap (λ (o : StateOutcome). o .state) e,
-    )
-
-returns-2 : tie.Need-returns-2
-returns-2 c =
-    let e = c .before .before .before .before .before .before .before .before .before .before .before .before .host-write
-    .ensures in (
-      written-as (c .before .before .word-line .ensures)
-          (verdict-granted (c .before .before .before .before .before .before .before .before .before .before .before .before
-          .host-write .result .verdict) _ (ap (λ (o : StateOutcome). o .refused) e) _ (c .before .before .before .before
-          .before .enum-told .given .1)),
-      ap (λ (o : StateOutcome). o .state) e,
-    )
+    let e = c .before .before .before .before .before .before .before .before .before .before .host-write .ensures in
+    (written-as (c .before .before .verdict-line .ensures) (ap (λ (o : StateOutcome). writeText o) e), ap (λ (o : StateOutcome). o .state) e)
 
 pub write-spec : {M : Type 1} → statement M
 write-spec =
     tie.close
-    (tie.spec (λ c κs. search needs) (λ c. search needs) (λ c κs. search needs) (λ c κs. search needs) (λ c. search needs)
-    (λ c. search needs) (λ c κs. search needs) (λ c. search needs) (λ c. search needs) (λ c. search needs) returns (λ c. search
-    needs)
-    (λ c. search needs) (λ c. search needs) returns-2)
+    (tie.spec (λ c κs. search needs) (λ c. search needs) (λ c κs. search needs) (λ c. search needs) (λ c. search needs) (λ c. search needs) returns)

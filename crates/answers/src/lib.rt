@@ -21,7 +21,7 @@ pub fn refusal_number(r: Refusal) -> u32
 
 // 0, or the refusal's number.
 pub fn verdict_number(v: Verdict) -> u32
-    ensures { λ n. ⌜ n ≡ numbers.verdictNumber v ⌝ }
+    ensures { λ n. ⌜ n ≡ numbers.verdictNumbers v .refused ⌝ }
 {
     match v {
         Verdict::Granted => 0,
@@ -35,9 +35,9 @@ pub fn stop_number(s: Stop) -> u32
     match s {
         Stop::Limit => 0,
         Stop::Trap(_) => 1,
-        Stop::Memory(_) => 2,
+        Stop::IllegalMemory(_) => 2,
         Stop::Misaligned(_) => 3,
-        Stop::Instruction(_) => 4,
+        Stop::IllegalInstruction(_) => 4,
     }
 }
 
@@ -48,8 +48,8 @@ pub fn stop_detail(s: Stop) -> u32
     match s {
         Stop::Limit => 0,
         Stop::Trap(number) => number,
-        Stop::Memory(va) => va,
+        Stop::IllegalMemory(va) => va,
         Stop::Misaligned(va) => va,
-        Stop::Instruction(word) => word,
+        Stop::IllegalInstruction(word) => word,
     }
 }

@@ -1,1 +1,1 @@
-// The paging theorem, demand 3: a pure theorem, and all of it stands in specs/.
+// The paging theorem, demand 3: statements in specs/, theorems in proofs/.

@@ -1,5 +1,3 @@
-pub mod Parts
-pub mod Words
 pub mod Numbers
 pub mod Calls
 pub mod Views

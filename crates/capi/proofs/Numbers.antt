@@ -1,7 +1,10 @@
--- The words of an answer, by the answer's case.
-use mathlib.Core.Path.{_≡_}
-use mathlib.Core.List.{List, [], _∷_}
-use Prim.Native.Nat.{ℕ}
+-- The words of an answer: stored one by one, and by the answer's case.
+use mathlib.Core.Path.{_≡_, ap, _∙_}
+use mathlib.Core.List.{List, [], _∷_, _++_, append-nil}
+use Prim.Native.Nat.{ℕ, _+_}
+use native.Mathlib.Omega.{arith}
+use lib.ListN.{length, drop-of-length-le}
+use lib.Seq.{sets, sets-eq}
 use Rattle.model.specs.Answers.{stopNumber, stopDetail, refusalNumber, runNumbers, imageNumbers}
 use Rattle.model.specs.declared.Stop.{Stop}
 use Rattle.model.specs.declared.Refusal.{Refusal}
@@ -11,18 +14,23 @@ use Rattle.model.specs.declared.ImageAnswer.{ImageAnswer}
 use Rattle.model.specs.declared.ImageAnswer.the-variants.{Image, NotImage}
 use Rattle.capi.specs.Calls.{runWords, imageWords}
 
+-- stores to every place
+pub all-set : (vs l : List ℕ) → length l ≡ length vs → sets l 0 vs ≡ vs
+all-set vs l e =
+    sets-eq vs l 0 (omega arith) ∙ ap (λ z. vs ++ z) (drop-of-length-le l {i = 0 + length vs} (omega arith)) ∙ append-nil vs
+
 pub ran : (a : RunAnswer) (s : Stop) (finished loads : ℕ) → a ≡ Ran s finished loads → (n : ℕ) → n ≡ stopNumber s → (d : ℕ) → d ≡ stopDetail s
-    → (w : List ℕ) → w ≡ n ∷ d ∷ finished ∷ loads ∷ [] → (0 ≡ runNumbers a .refused) × (w ≡ runWords (runNumbers a))
+    → (w : List ℕ) → w ≡ n ∷ d ∷ finished ∷ loads ∷ [] → (0 ≡ runNumbers a .verdict .refused) × (w ≡ runWords (runNumbers a))
 ran a s finished loads e n en d ed w ew = (simp e, simp (e, ew, en, ed))
 
 pub not-run : (a : RunAnswer) (r : Refusal) → a ≡ NotRun r → (n : ℕ) → n ≡ refusalNumber r
-    → (w : List ℕ) → w ≡ 0 ∷ 0 ∷ 0 ∷ 0 ∷ [] → (n ≡ runNumbers a .refused) × (w ≡ runWords (runNumbers a))
+    → (w : List ℕ) → w ≡ 0 ∷ 0 ∷ 0 ∷ 0 ∷ [] → (n ≡ runNumbers a .verdict .refused) × (w ≡ runWords (runNumbers a))
 not-run a r e n en w ew = (simp (e, en), simp (e, ew))
 
 pub image : (a : ImageAnswer) (ptl start frames : ℕ) → a ≡ Image ptl start frames
-    → (w : List ℕ) → w ≡ ptl ∷ start ∷ frames ∷ [] → (0 ≡ imageNumbers a .refused) × (w ≡ imageWords (imageNumbers a))
+    → (w : List ℕ) → w ≡ ptl ∷ start ∷ frames ∷ [] → (0 ≡ imageNumbers a .verdict .refused) × (w ≡ imageWords (imageNumbers a))
 image a ptl start frames e w ew = (simp e, simp (e, ew))
 
 pub not-image : (a : ImageAnswer) (r : Refusal) → a ≡ NotImage r → (n : ℕ) → n ≡ refusalNumber r
-    → (w : List ℕ) → w ≡ 0 ∷ 0 ∷ 0 ∷ [] → (n ≡ imageNumbers a .refused) × (w ≡ imageWords (imageNumbers a))
+    → (w : List ℕ) → w ≡ 0 ∷ 0 ∷ 0 ∷ [] → (n ≡ imageNumbers a .verdict .refused) × (w ≡ imageWords (imageNumbers a))
 not-image a r e n en w ew = (simp (e, en), simp (e, ew))

@@ -13,7 +13,7 @@ use Rattle.model.specs.Bytes.{page, withPage}
 use Rattle.model.specs.Pages.{virtual}
 use Rattle.model.specs.Table.{entry, ppx, valid}
 use Rattle.model.specs.State.{State, Memory, state}
-use Rattle.model.specs.Answers.{verdictNumber, refusalNumber}
+use Rattle.model.specs.Answers.{verdictNumbers, refusalNumber}
 use Rattle.model.specs.Calls.{viewCall, viewVerdict, pageBytes}
 use Rattle.model.specs.declared.Shape.{Shape}
 use Rattle.model.specs.declared.Machine.{Machine}
@@ -23,11 +23,11 @@ use Rattle.model.specs.declared.Refusal.the-variants.{Bound, Unsound, Rights, T
 use Rattle.model.specs.declared.Verdict.{Verdict}
 use Rattle.model.specs.declared.Verdict.the-variants.{Granted, Refused}
 use Rattle.laws.proofs.Bytes.{length-page}
-use Rattle.host.specs.Home.{Lent}
-use Rattle.machine.proofs.Verdicts.{view-leans}
-use Rattle.capi.specs.Words.{machineOf}
+use Rattle.host.specs.Home.{Reachable}
+use Rattle.host.proofs.Leans.{view-leans}
+use Rattle.record.specs.Words.{recordLength, machineOf}
+use Rattle.record.proofs.Words.{length-held}
 use Rattle.capi.specs.Calls as calls
-use Rattle.capi.proofs.Parts.{length-pages}
 
 -- a refusal's number is not 0
 nonzero : (r : Refusal) → eqb (refusalNumber r) 0 ≡ false
@@ -39,7 +39,7 @@ nonzero Edition = refl
 nonzero Format = refl
 nonzero Room = refl
 
-length-bytes : (s : Shape) (m : Memory) (x : VirtualPage) → Lent s (m .main) (length (m .swap)) → x .0 < s .ptl → length (pageBytes s m x) ≡ 4096
+length-bytes : (s : Shape) (m : Memory) (x : VirtualPage) → Reachable s (m .main) (length (m .swap)) → x .0 < s .ptl → length (pageBytes s m x) ≡ 4096
 unfolding pageBytes
 length-bytes s m x lent inside = pick (valid (entry s (m .main) x)) refl
   where
@@ -52,11 +52,11 @@ length-bytes s m x lent inside = pick (valid (entry s (m .main) x)) refl
 module _ (p : State) (x : VirtualPage) (array : length (p .machine .book .held) ≡ 32) where
   -- granted with a whole page, or refused with none
   pub record Granting : Type 0 where
-    pub number : viewCall p x .refused ≡ 0
+    pub number : viewCall p x .verdict .refused ≡ 0
     pub long : length (viewCall p x .part) ≡ 4096
 
   pub record Refusing : Type 0 where
-    pub number : eqb (viewCall p x .refused) 0 ≡ false
+    pub number : eqb (viewCall p x .verdict .refused) 0 ≡ false
     pub long : length (viewCall p x .part) ≡ 0
 
   either : Granting ⊎ Refusing
@@ -82,28 +82,27 @@ over-page into part e f =
     ap (λ z. take 4096 part ++ z) (drop-of-length-le into {i = 4096} (omega arith)) ∙ append-nil (take 4096 part) ∙ take-all 4096 part (omega arith)
 
 module _ (words main swap : List ℕ) (x : ℕ) (into : List ℕ) where
-  pub view-short : (length words ≡ 74 → ⊥) → record { refused = 1; buffer = into } ≡ calls.view words main swap x into
+  pub view-short : (length words ≡ recordLength → ⊥) → record { returned = refusalNumber Bound; buffer = into } ≡ calls.view words main swap x into
   unfolding calls.view
   view-short n = simp (ne-eqb _ _ n)
 
-  module _ (e : length words ≡ 74) where
-    pub view-narrow : (length into ≡ 4096 → ⊥) → record { refused = 1; buffer = into } ≡ calls.view words main swap x into
+  module _ (e : length words ≡ recordLength) where
+    pub view-narrow : (length into ≡ 4096 → ⊥) → record { returned = refusalNumber Bound; buffer = into } ≡ calls.view words main swap x into
     unfolding calls.view
     view-narrow n = simp (eq-eqb _ _ e, ne-eqb _ _ n)
 
     module _ (f : length into ≡ 4096) (m : Machine) (em : m ≡ machineOf words) (part : List ℕ) (ep : part ≡ viewCall (state m main swap) (virtual x) .part) where
       array : length (m .book .held) ≡ 32
-      unfolding machineOf
-      array = rw em (length-pages words e)
+      array = rw em (length-held words e)
 
-      pub view-refused : length part < 4096 → (v : Verdict) → verdictNumber v ≡ viewCall (state m main swap) (virtual x) .refused
-          → (r : ℕ) → r ≡ verdictNumber v → record { refused = r; buffer = into } ≡ calls.view words main swap x into
+      pub view-refused : length part < 4096 → (v : Verdict) → verdictNumbers v ≡ viewCall (state m main swap) (virtual x) .verdict
+          → (r : ℕ) → r ≡ verdictNumbers v .refused → record { returned = r; buffer = into } ≡ calls.view words main swap x into
       unfolding calls.view
       view-refused h v ev r er =
           let g = refusing (state m main swap) (virtual x) array (rw ep at h) in
           simp (eq-eqb _ _ e, eq-eqb _ _ f, ← em, g .number, er, ev)
 
-      pub view-done : 4096 ≤ length part → (b : List ℕ) → b ≡ withPage into 0 (page part 0) → record { refused = 0; buffer = b } ≡ calls.view words main swap x into
+      pub view-done : 4096 ≤ length part → (b : List ℕ) → b ≡ withPage into 0 (page part 0) → record { returned = 0; buffer = b } ≡ calls.view words main swap x into
       unfolding calls.view
       view-done h b eb =
           let g = granting (state m main swap) (virtual x) array (rw ep at h) in

@@ -7,11 +7,12 @@ use lib.Dec.{eqb}
 use lib.ListN.{length}
 use Rattle.model.specs.Choice.{if_then_else_}
 use Rattle.model.specs.Pages.{virtual}
-use Rattle.model.specs.State.{State, state}
-use Rattle.model.specs.Answers.{RunNumbers, ImageNumbers}
+use Rattle.model.specs.State.{State, memory, state}
+use Rattle.model.specs.Answers.{refusalNumber, RunNumbers, ImageNumbers}
 use Rattle.model.specs.Calls.{RunOutcome, StateOutcome, ReadOutcome, ViewOutcome, ReplyOutcome, runCall, readCall, writeCall, viewCall, replyCall}
 use Rattle.model.specs.Image.{loadCall, imageCall}
-use Rattle.capi.specs.Words.{machineOf, wordsOf, whole}
+use Rattle.model.specs.declared.Refusal.the-variants.{Bound}
+use Rattle.record.specs.Words.{machineOf, wordsOf, whole}
 
 -- the machine that a host lends: the record's words and both memories
 abbrev pub lent : List ℕ → List ℕ → List ℕ → State
@@ -19,14 +20,14 @@ lent words main swap = state (machineOf words) main swap
 
 -- ---- load, and write: the record and both memories are lent
 pub record Machined : Type 0 where
-  pub refused : ℕ
+  pub returned : ℕ
   pub words : List ℕ
   pub main : List ℕ
   pub swap : List ℕ
 
 abbrev pub machined : StateOutcome → Machined
 machined o = record {
-  refused = o .refused;
+  returned = o .verdict .refused;
   words = wordsOf (o .state .machine);
   main = o .state .memory .main;
   swap = o .state .memory .swap;
@@ -35,17 +36,17 @@ machined o = record {
 -- "from loading, a record of zeros"
 unfoldable pub load : List ℕ → List ℕ → List ℕ → List ℕ → Machined
 load file main swap words =
-    if whole words then machined (loadCall file (record { main = main; swap = swap }))
-    else record { refused = 1; words = words; main = main; swap = swap }
+    if whole words then machined (loadCall file (memory main swap))
+    else record { returned = refusalNumber Bound; words = words; main = main; swap = swap }
 
 unfoldable pub write : List ℕ → List ℕ → List ℕ → ℕ → List ℕ → Machined
 write words main swap va bytes =
     if whole words then machined (writeCall (lent words main swap) va bytes)
-    else record { refused = 1; words = words; main = main; swap = swap }
+    else record { returned = refusalNumber Bound; words = words; main = main; swap = swap }
 
 -- ---- run, with an answer of four words
 pub record Ran : Type 0 where
-  pub refused : ℕ
+  pub returned : ℕ
   pub words : List ℕ
   pub main : List ℕ
   pub swap : List ℕ
@@ -56,7 +57,7 @@ runWords n = n .stop ∷ n .detail ∷ n .finished ∷ n .loads ∷ []
 
 abbrev pub ran : RunOutcome → Ran
 ran o = record {
-  refused = o .numbers .refused;
+  returned = o .numbers .verdict .refused;
   words = wordsOf (o .state .machine);
   main = o .state .memory .main;
   swap = o .state .memory .swap;
@@ -66,48 +67,55 @@ ran o = record {
 unfoldable pub run : List ℕ → List ℕ → List ℕ → ℕ → List ℕ → Ran
 run words main swap limit answer =
     if whole words && eqb (length answer) 4 then ran (runCall (lent words main swap) limit)
-    else record { refused = 1; words = words; main = main; swap = swap; answer = answer }
+    else record { returned = refusalNumber Bound; words = words; main = main; swap = swap; answer = answer }
 
 -- ---- read
-unfoldable pub read : List ℕ → List ℕ → List ℕ → ℕ → List ℕ → ReadOutcome
+pub record Filled : Type 0 where
+  pub returned : ℕ
+  pub buffer : List ℕ
+
+abbrev pub filled : ReadOutcome → Filled
+filled o = record { returned = o .verdict .refused; buffer = o .buffer }
+
+unfoldable pub read : List ℕ → List ℕ → List ℕ → ℕ → List ℕ → Filled
 read words main swap va into =
-    if whole words then readCall (lent words main swap) va into
-    else record { refused = 1; buffer = into }
+    if whole words then filled (readCall (lent words main swap) va into)
+    else record { returned = refusalNumber Bound; buffer = into }
 
 -- ---- view: the page is copied into a buffer of 4096 bytes, which stays as it is where the view is refused
-abbrev pub viewed : List ℕ → ViewOutcome → ReadOutcome
-viewed into o = record { refused = o .refused; buffer = if eqb (o .refused) 0 then o .part else into }
+abbrev pub viewed : List ℕ → ViewOutcome → Filled
+viewed into o = record { returned = o .verdict .refused; buffer = if eqb (o .verdict .refused) 0 then o .part else into }
 
-unfoldable pub view : List ℕ → List ℕ → List ℕ → ℕ → List ℕ → ReadOutcome
+unfoldable pub view : List ℕ → List ℕ → List ℕ → ℕ → List ℕ → Filled
 view words main swap x into =
     if whole words && eqb (length into) 4096 then viewed into (viewCall (lent words main swap) (virtual x))
-    else record { refused = 1; buffer = into }
+    else record { returned = refusalNumber Bound; buffer = into }
 
 -- ---- reply
 pub record Replied : Type 0 where
-  pub refused : ℕ
+  pub returned : ℕ
   pub words : List ℕ
 
 abbrev pub replied : ReplyOutcome → Replied
-replied o = record { refused = o .refused; words = wordsOf (o .machine) }
+replied o = record { returned = o .verdict .refused; words = wordsOf (o .machine) }
 
 unfoldable pub reply : List ℕ → ℕ → ℕ → Replied
 reply words register value =
     if whole words then replied (replyCall (machineOf words) register value)
-    else record { refused = 1; words = words }
+    else record { returned = refusalNumber Bound; words = words }
 
 -- ---- image, with an answer of three words
 pub record Imaged : Type 0 where
-  pub refused : ℕ
+  pub returned : ℕ
   pub answer : List ℕ
 
 abbrev pub imageWords : ImageNumbers → List ℕ
 imageWords n = n .ptl ∷ n .start ∷ n .frames ∷ []
 
 abbrev pub imaged : ImageNumbers → Imaged
-imaged n = record { refused = n .refused; answer = imageWords n }
+imaged n = record { returned = n .verdict .refused; answer = imageWords n }
 
 unfoldable pub image : List ℕ → List ℕ → Imaged
 image file answer =
     if eqb (length answer) 3 then imaged (imageCall file .numbers)
-    else record { refused = 1; answer = answer }
+    else record { returned = refusalNumber Bound; answer = answer }

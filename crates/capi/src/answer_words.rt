@@ -19,7 +19,7 @@ fn put_four(answer: &mut [u32], stop: u32, detail: u32, finished: u32, loads: u3
 
 pub(crate) fn put_run(answer: &mut [u32], a: RunAnswer) -> u32
     requires { ⌜ length (now answer) ≡ 4 ⌝ }
-    ensures { λ r. ⌜ (r ≡ numbers.runNumbers a .refused) × (now (answer .exit) ≡ runWords (numbers.runNumbers a)) ⌝ }
+    ensures { λ r. ⌜ (r ≡ numbers.runNumbers a .verdict .refused) × (now (answer .exit) ≡ runWords (numbers.runNumbers a)) ⌝ }
 {
     match a {
         RunAnswer::Ran {
@@ -54,7 +54,7 @@ fn put_three(answer: &mut [u32], ptl: u32, start: u32, frames: u32)
 
 pub(crate) fn put_image(answer: &mut [u32], a: ImageAnswer) -> u32
     requires { ⌜ length (now answer) ≡ 3 ⌝ }
-    ensures { λ r. ⌜ (r ≡ numbers.imageNumbers a .refused) × (now (answer .exit) ≡ imageWords (numbers.imageNumbers a)) ⌝ }
+    ensures { λ r. ⌜ (r ≡ numbers.imageNumbers a .verdict .refused) × (now (answer .exit) ≡ imageWords (numbers.imageNumbers a)) ⌝ }
 {
     match a {
         ImageAnswer::Image { ptl, start, frames } => {

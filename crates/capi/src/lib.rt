@@ -1,14 +1,13 @@
-// The calls for hosts in C and Rust, on numbers and lent slices only: brenwythal.h says what each does. A record is 74 words. None
-// asks anything of its caller, and each names its complete outcome.
+// The calls for hosts in C and Rust, on numbers and lent slices only: brenwythal.h says what each does. None asks anything of its
+// caller, and each names its complete outcome. The crate `record` says what the words of a record are.
 mod answer_words;
-mod layout;
 
 use model::VirtualPage;
 ghost use mathlib.Core.Path.{_≡_};
 ghost use Rattle.capi.specs.Calls as calls;
 
 // The words of a record, and the bytes of a page.
-const RECORD: usize = 74;
+const RECORD: usize = record::LENGTH;
 
 const PAGE: usize = 4096;
 
@@ -20,16 +19,16 @@ pub extern "C" fn brenwythal_load(
     swap: &mut [u8],
     words: &mut [u32],
 ) -> u32
-    ensures { λ r. ⌜ record { refused = r; words = now (words .exit); main = now (main .exit); swap = now (swap .exit) }
+    ensures { λ r. ⌜ record { returned = r; words = now (words .exit); main = now (main .exit); swap = now (swap .exit) }
         ≡ calls.load (now (file .entry)) (now (main .entry)) (now (swap .entry)) (now (words .entry)) ⌝ }
 {
     if words.len() != RECORD {
         return 1;
     }
-    let h = image::load(file, main, swap);
+    let h = loading::load(file, main, swap);
     let m = h.machine;
     let v = h.verdict;
-    layout::put_machine(words, m);
+    record::put_machine(words, m);
     answers::verdict_number(v)
 }
 
@@ -42,7 +41,7 @@ pub extern "C" fn brenwythal_run(
     limit: u32,
     answer: &mut [u32],
 ) -> u32
-    ensures { λ r. ⌜ record { refused = r; words = now (words .exit); main = now (main .exit); swap = now (swap .exit); answer = now (answer .exit) }
+    ensures { λ r. ⌜ record { returned = r; words = now (words .exit); main = now (main .exit); swap = now (swap .exit); answer = now (answer .exit) }
         ≡ calls.run (now (words .entry)) (now (main .entry)) (now (swap .entry)) limit (now (answer .entry)) ⌝ }
 {
     if words.len() != RECORD {
@@ -51,10 +50,10 @@ pub extern "C" fn brenwythal_run(
     if answer.len() != 4 {
         return 1;
     }
-    let r = machine::run(layout::machine_of(words), main, swap, limit);
+    let r = machine::run(record::machine_of(words), main, swap, limit);
     let m = r.machine;
     let a = r.answer;
-    layout::put_machine(words, m);
+    record::put_machine(words, m);
     answer_words::put_run(answer, a)
 }
 
@@ -67,13 +66,13 @@ pub extern "C" fn brenwythal_read(
     va: u32,
     into: &mut [u8],
 ) -> u32
-    ensures { λ r. ⌜ record { refused = r; buffer = now (into .exit) }
+    ensures { λ r. ⌜ record { returned = r; buffer = now (into .exit) }
         ≡ calls.read (now (words .entry)) (now (main .entry)) (now (swap .entry)) va (now (into .entry)) ⌝ }
 {
     if words.len() != RECORD {
         return 1;
     }
-    answers::verdict_number(machine::host_read(layout::machine_of(words), main, swap, va, into))
+    answers::verdict_number(machine::host_read(record::machine_of(words), main, swap, va, into))
 }
 
 // "host write takes one".
@@ -85,16 +84,16 @@ pub extern "C" fn brenwythal_write(
     va: u32,
     from: &[u8],
 ) -> u32
-    ensures { λ r. ⌜ record { refused = r; words = now (words .exit); main = now (main .exit); swap = now (swap .exit) }
+    ensures { λ r. ⌜ record { returned = r; words = now (words .exit); main = now (main .exit); swap = now (swap .exit) }
         ≡ calls.write (now (words .entry)) (now (main .entry)) (now (swap .entry)) va (now (from .entry)) ⌝ }
 {
     if words.len() != RECORD {
         return 1;
     }
-    let h = machine::host_write(layout::machine_of(words), main, swap, va, from);
+    let h = machine::host_write(record::machine_of(words), main, swap, va, from);
     let m = h.machine;
     let v = h.verdict;
-    layout::put_machine(words, m);
+    record::put_machine(words, m);
     answers::verdict_number(v)
 }
 
@@ -107,7 +106,7 @@ pub extern "C" fn brenwythal_view<'a>(
     page: u32,
     into: &mut [u8],
 ) -> u32
-    ensures { λ r. ⌜ record { refused = r; buffer = now (into .exit) }
+    ensures { λ r. ⌜ record { returned = r; buffer = now (into .exit) }
         ≡ calls.view (now (words .entry)) (now (main .entry)) (now (swap .entry)) page (now (into .entry)) ⌝ }
 {
     if words.len() != RECORD {
@@ -116,7 +115,7 @@ pub extern "C" fn brenwythal_view<'a>(
     if into.len() != PAGE {
         return 1;
     }
-    let m = layout::machine_of(words);
+    let m = record::machine_of(words);
     let part = machine::page_view(m, main, swap, VirtualPage(page));
     if part.len() < PAGE {
         return answers::verdict_number(machine::view_answer(m, main, swap, VirtualPage(page)));
@@ -128,22 +127,22 @@ pub extern "C" fn brenwythal_view<'a>(
 // "Reply sets one of GPR 1 to 31."
 #[no_mangle]
 pub extern "C" fn brenwythal_reply(words: &mut [u32], register: u32, value: u32) -> u32
-    ensures { λ r. ⌜ record { refused = r; words = now (words .exit) } ≡ calls.reply (now (words .entry)) register value ⌝ }
+    ensures { λ r. ⌜ record { returned = r; words = now (words .exit) } ≡ calls.reply (now (words .entry)) register value ⌝ }
 {
     if words.len() != RECORD {
         return 1;
     }
-    let h = machine::reply(layout::machine_of(words), register, value);
+    let h = machine::reply(record::machine_of(words), register, value);
     let m = h.machine;
     let v = h.verdict;
-    layout::put_machine(words, m);
+    record::put_machine(words, m);
     answers::verdict_number(v)
 }
 
 // Reads a console image. The answer: "ptl, start and frames as written".
 #[no_mangle]
 pub extern "C" fn brenwythal_image(file: &[u8], answer: &mut [u32]) -> u32
-    ensures { λ r. ⌜ record { refused = r; answer = now (answer .exit) } ≡ calls.image (now (file .entry)) (now (answer .entry)) ⌝ }
+    ensures { λ r. ⌜ record { returned = r; answer = now (answer .exit) } ≡ calls.image (now (file .entry)) (now (answer .entry)) ⌝ }
 {
     if answer.len() != 3 {
         return 1;

@@ -21,7 +21,7 @@ use Rattle.cpu.specs.Found.{Found}
 
 module _ (s : Shape) (main : List ℕ) where
   -- no address is on page 2^20
-  pub nowhere : (x : VirtualPage) → x .0 ≡ 1048576 → (p : MainPage) → Found s main (record { page = x; frame = p })
+  pub nowhere : (x : VirtualPage) → x .0 ≡ 2 ^ 20 → (p : MainPage) → Found s main (record { page = x; frame = p })
   nowhere x e p va l z = absurd (omega (arith, z, e))
 
   -- a is what the access to va says, and x the page of va
@@ -43,9 +43,9 @@ module _ (s : Shape) (main : List ℕ) where
         ∙ rw (is-frame, is-entry, is-page) refl
 
   -- the fetch on a code page
-  pub reached : (c : CodePage) → Found s main c → (va : ℕ) → va < 2 ^ 32 → (r : Bool) → r ≡ eqb (pageOf va .0) (c .page .0) → r ≡ true
+  pub covered : (c : CodePage) → Found s main c → (va : ℕ) → va < 2 ^ 32 → (r : Bool) → r ≡ eqb (pageOf va .0) (c .page .0) → r ≡ true
       → (i : ℕ) → i ≡ mainAt (c .frame) (offset va) → At i ≡ translate s main false va
-  reached c h va l r e y i q = ap At q ∙ sym (h va l (eqb-true _ _ (sym e ∙ y)))
+  covered c h va l r e y i q = ap At q ∙ sym (h va l (eqb-true _ _ (sym e ∙ y)))
 
 -- a code page goes over to a main memory with the same accesses
 pub found-over : (s : Shape) (main main′ : List ℕ) (c : CodePage) → ((w : Bool) (va : ℕ) → translate s main′ w va ≡ translate s main w va)

@@ -1,3 +1,4 @@
 -- What the contracts of an attempt name.
 pub mod Numbered
 pub mod Found
+pub mod Reach

@@ -19,11 +19,8 @@ pub struct CodePage {
     pub frame: MainPage,
 }
 
-// A page number that no address has: addresses end below page 2^20.
-const NOWHERE: u32 = 1048576;
-
 // va is on the code page.
-pub fn on(c: CodePage, va: u32) -> bool
+pub fn covers(c: CodePage, va: u32) -> bool
     ensures { λ r. ⌜ r ≡ eqb (pageOf va .0) (c .page .0) ⌝ }
 {
     let x = pages::page_of(va);
@@ -44,18 +41,18 @@ pub fn find(s: Shape, m: &[u8], va: u32) -> CodePage
             frame: pages::ppx(table::entry(s, m, x)),
         },
         _ => CodePage {
-            page: VirtualPage(NOWHERE),
-            frame: MainPage(0),
+            page: pages::NOWHERE,
+            frame: pages::NO_FRAME,
         },
     }
 }
 
 // The fetch at va: on the code page it is in that frame, elsewhere where the table says.
-pub(crate) fn reach(s: Shape, m: &[u8], c: CodePage, va: u32) -> Access
+pub(crate) fn locate(s: Shape, m: &[u8], c: CodePage, va: u32) -> Access
     requires { ⌜ Fit s (length (now m)) × Found s (now m) c ⌝ }
     ensures { λ r. ⌜ r ≡ translate s (now (m .entry)) false va ⌝ }
 {
-    if on(c, va) {
+    if covers(c, va) {
         return Access::At(pages::main_at(c.frame, va));
     }
     table::locate(s, m, va, false)

@@ -9,7 +9,7 @@ use lib.Dec.{leb}
 use lib.ListN.{length}
 use Rattle.model.specs.State.{Memory, State}
 use Rattle.model.specs.Sound.{fits, sound}
-use Rattle.model.specs.Answers.{verdictNumber}
+use Rattle.model.specs.Answers.{verdictNumbers}
 use Rattle.model.specs.Calls.{machineVerdict, runVerdict, runBy, runCall, permitted, hostVerdict, readBy, readCall, writeBy, writeCall, viewable, viewVerdict, viewBy, viewCall, replyVerdict, replyBy, replyCall}
 use Rattle.model.specs.Image.{ptlOf, framesOf, known, wellFormed, imageVerdict, imageBy, imageCall, room, loadVerdict, loadBy, loadCall}
 use Rattle.model.specs.declared.Machine.{Machine}
@@ -26,15 +26,15 @@ use Rattle.demands.proofs.Decide.{First, first-unless, last-unless, Ans
 use Rattle.demands.proofs.Told.{fits-told, sound-told, some-denied-told, view-told, too-long-told, register-told, unknown-told, rule-told, room-told}
 
 -- ---- the tests that calls share
-machine-first : (p : State) (v : Verdict) (own : List Row) → Whole p → First (verdictNumber v) own
-    → First (verdictNumber (machineVerdict p v)) (machineRows p own)
+machine-first : (p : State) (v : Verdict) (own : List Row) → Whole p → First (verdictNumbers v .refused) own
+    → First (verdictNumbers (machineVerdict p v) .refused) (machineRows p own)
 unfolding machineVerdict
 machine-first p v own len f =
     first-unless (fits (p .machine .shape) (p .memory)) Bound _ (1 unless Fits p) (2 unless Good p ∷ own) refl (fits-told p)
     (λ q. first-unless (sound (p .machine) (p .memory .main)) Unsound v (2 unless Good p) own refl (sound-told p len q) (λ s. f))
 
 transfer-first : (writing : Bool) (p : State) (va n : ℕ) → Whole p
-    → First (verdictNumber (hostVerdict writing p va n)) (transferRows writing p va n)
+    → First (verdictNumbers (hostVerdict writing p va n) .refused) (transferRows writing p va n)
 unfolding hostVerdict
 transfer-first writing p va n len =
     let third : Row = 3 when SomeDenied writing p va n in
@@ -42,38 +42,38 @@ transfer-first writing p va n len =
     (first-unless (leb n 256) TooMuch _ (4 when TransferTooLong n) (third ∷ []) refl (too-long-told 256 n)
     (λ q. last-unless (permitted writing (p .machine .shape) (p .memory .main) va n) Rights third refl (some-denied-told writing p va n)))
 
-image-first : (l : List ℕ) (v : Verdict) (own : List Row) → First (verdictNumber v) own
-    → First (verdictNumber (imageVerdict l v)) (imageRows l own)
+image-first : (l : List ℕ) (v : Verdict) (own : List Row) → First (verdictNumbers v .refused) own
+    → First (verdictNumbers (imageVerdict l v) .refused) (imageRows l own)
 unfolding imageVerdict
 image-first l v own f =
     first-unless (known l) Edition _ (5 when UnknownImage l) (6 unless Formed l ∷ own) refl (unknown-told l)
     (λ q. first-unless (wellFormed l) Format v (6 unless Formed l) own refl (rule-told l) (λ s. f))
 
 -- ---- the outcome that each call makes of its verdict
-run-answers : (p : State) (n : ℕ) → Answering (λ o. o .numbers .refused) (refusedRun p) (λ v. runBy v p n)
-run-answers p n = record { granted = refl; refused = λ x. refl; named = λ k. refl }
+run-answers : (p : State) (n : ℕ) → Answering (λ o. o .numbers .verdict) (refusedRun p) (λ v. runBy v p n)
+run-answers p n = record { taken = refl; refused = λ x. refl; named = λ k. refl }
 
-read-answers : (p : State) (va : ℕ) (buffer : List ℕ) → Answering (λ o. o .refused) (refusedRead buffer) (λ v. readBy v p va buffer)
-read-answers p va buffer = record { granted = refl; refused = λ x. refl; named = λ k. refl }
+read-answers : (p : State) (va : ℕ) (buffer : List ℕ) → Answering (λ o. o .verdict) (refusedRead buffer) (λ v. readBy v p va buffer)
+read-answers p va buffer = record { taken = refl; refused = λ x. refl; named = λ k. refl }
 
-write-answers : (p : State) (va : ℕ) (bytes : List ℕ) → Answering (λ o. o .refused) (refusedWrite p) (λ v. writeBy v p va bytes)
-write-answers p va bytes = record { granted = refl; refused = λ x. refl; named = λ k. refl }
+write-answers : (p : State) (va : ℕ) (bytes : List ℕ) → Answering (λ o. o .verdict) (refusedWrite p) (λ v. writeBy v p va bytes)
+write-answers p va bytes = record { taken = refl; refused = λ x. refl; named = λ k. refl }
 
-view-answers : (p : State) (x : VirtualPage) → Answering (λ o. o .refused) refusedView (λ v. viewBy v p x)
-view-answers p x = record { granted = refl; refused = λ x. refl; named = λ k. refl }
+view-answers : (p : State) (x : VirtualPage) → Answering (λ o. o .verdict) refusedView (λ v. viewBy v p x)
+view-answers p x = record { taken = refl; refused = λ x. refl; named = λ k. refl }
 
-reply-answers : (m : Machine) (i w : ℕ) → Answering (λ o. o .refused) (refusedReply m) (λ v. replyBy v m i w)
-reply-answers m i w = record { granted = refl; refused = λ x. refl; named = λ k. refl }
+reply-answers : (m : Machine) (i w : ℕ) → Answering (λ o. o .verdict) (refusedReply m) (λ v. replyBy v m i w)
+reply-answers m i w = record { taken = refl; refused = λ x. refl; named = λ k. refl }
 
-image-answers : (l : List ℕ) → Answering (λ o. o .numbers .refused) refusedImage (λ v. imageBy v l)
-image-answers l = record { granted = refl; refused = λ x. refl; named = λ k. refl }
+image-answers : (l : List ℕ) → Answering (λ o. o .numbers .verdict) refusedImage (λ v. imageBy v l)
+image-answers l = record { taken = refl; refused = λ x. refl; named = λ k. refl }
 
-load-answers : (l : List ℕ) (m : Memory) → Answering (λ o. o .refused) (refusedLoading m) (λ v. loadBy v l m)
-load-answers l m = record { granted = refl; refused = λ x. refl; named = λ k. refl }
+load-answers : (l : List ℕ) (m : Memory) → Answering (λ o. o .verdict) (refusedLoading m) (λ v. loadBy v l m)
+load-answers l m = record { taken = refl; refused = λ x. refl; named = λ k. refl }
 
 -- ---- "Each refusal comes exactly when document 01 says"
 run-exactly : (p : State) (n : ℕ) → Whole p
-    → Decided (runCall p n .numbers .refused) (machineRows p (4 when RunTooLong n ∷ []))
+    → Decided (runCall p n .numbers .verdict .refused) (machineRows p (4 when RunTooLong n ∷ []))
 unfolding runCall runVerdict
 run-exactly p n len =
     decides (run-answers p n) (runVerdict p n) _ (omega arith)
@@ -81,14 +81,14 @@ run-exactly p n len =
     (last-unless (leb n 1000000) TooMuch (4 when RunTooLong n) refl (too-long-told 1000000 n)))
 
 view-exactly : (p : State) (x : VirtualPage) → Whole p
-    → Decided (viewCall p x .refused) (machineRows p (3 when Denied false p x ∷ []))
+    → Decided (viewCall p x .verdict .refused) (machineRows p (3 when Denied false p x ∷ []))
 unfolding viewCall viewVerdict
 view-exactly p x len =
     decides (view-answers p x) (viewVerdict p x) _ (omega arith)
     (machine-first p _ (3 when Denied false p x ∷ []) len
     (last-unless (viewable (p .machine .shape) (p .memory .main) x) Rights (3 when Denied false p x) refl (view-told p x)))
 
-loading-exactly : (l : List ℕ) (m : Memory) → Decided (loadCall l m .refused) (imageRows l (7 unless MemoryFits l m ∷ []))
+loading-exactly : (l : List ℕ) (m : Memory) → Decided (loadCall l m .verdict .refused) (imageRows l (7 unless MemoryFits l m ∷ []))
 unfolding loadCall loadVerdict
 loading-exactly l m =
     decides (load-answers l m) (loadVerdict l m) _ (omega arith)

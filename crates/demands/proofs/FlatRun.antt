@@ -10,7 +10,7 @@ use Rattle.model.specs.Flat.{Flat, flat, flatInstruction}
 use Rattle.model.specs.Calls.{runVerdict, reported, runBy, runCall}
 use Rattle.model.specs.Series.{runs, after}
 use Rattle.model.specs.declared.Stop.{Stop}
-use Rattle.model.specs.declared.Stop.the-variants.{Limit, Trap, Memory, Misaligned, Instruction}
+use Rattle.model.specs.declared.Stop.the-variants.{Limit, Trap, IllegalMemory, Misaligned, IllegalInstruction}
 use Rattle.model.specs.declared.Verdict.{Verdict}
 use Rattle.model.specs.declared.Verdict.the-variants.{Granted, Refused}
 use Rattle.laws.specs.Good.{Good}
@@ -28,7 +28,7 @@ runs-flat p g n h =
     let e : runCall p n ≡ reported (run instruction n (uncounted p)) = run-reported p g n h in
     let s : mapCourse flatOf (run instruction n (uncounted p)) ≡ run flatInstruction n (flat p) = run-right n (uncounted p) g .same in
     record {
-      granted = ap (λ o. o .numbers .refused) e;
+      taken = ap (λ o. o .numbers .verdict .refused) e;
       stop = ap (λ o. o .numbers .stop) e ∙ ap (λ c. stopNumber (c .stop)) s;
       detail = ap (λ o. o .numbers .detail) e ∙ ap (λ c. stopDetail (c .stop)) s;
       finished = ap (λ o. o .numbers .finished) e ∙ ap (λ c. c .finished) s;
@@ -38,9 +38,9 @@ runs-flat p g n h =
 stop-zero : (s : Stop) → stopNumber s ≡ 0 → s ≡ Limit
 stop-zero Limit e = refl
 stop-zero (Trap n) e = absurd (omega (arith, e))
-stop-zero (Memory va) e = absurd (omega (arith, e))
+stop-zero (IllegalMemory va) e = absurd (omega (arith, e))
 stop-zero (Misaligned va) e = absurd (omega (arith, e))
-stop-zero (Instruction w) e = absurd (omega (arith, e))
+stop-zero (IllegalInstruction w) e = absurd (omega (arith, e))
 
 module _ (p : State) (g : Good p) (n : ℕ) where
   pub few-loads : FewLoads (runCall p n .numbers)

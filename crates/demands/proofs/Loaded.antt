@@ -11,9 +11,9 @@ use Rattle.laws.proofs.Sound.{sound-of}
 use Rattle.laws.proofs.Granted.{machine-onward}
 use Rattle.laws.proofs.Formed.{load-facts, load-accepted}
 use Rattle.laws.proofs.Fresh.{fresh-good, fresh-bytes, fresh-rights, fresh-main-long, fresh-swap-long}
-use Rattle.demands.specs.Loaded.{imageFlat, Loaded}
+use Rattle.demands.specs.Loaded.{imageFlat, LoadedFrom}
 
-fresh-loaded : (l : List ℕ) (m : Memory) → Accepted l m → Loaded l m (fresh l (length (m .main)))
+fresh-loaded : (l : List ℕ) (m : Memory) → Accepted l m → LoadedFrom l m (fresh l (length (m .main)))
 unfolding fresh flat imageFlat
 fresh-loaded l m a =
     let g = fresh-good l m a in
@@ -31,5 +31,5 @@ fresh-loaded l m a =
       onward = machine-onward (fresh l (length (m .main))) g;
     }
 
-pub loaded : (l : List ℕ) (m : Memory) → loadCall l m .refused ≡ 0 → Loaded l m (loadCall l m .state)
+pub loaded : (l : List ℕ) (m : Memory) → loadCall l m .verdict .refused ≡ 0 → LoadedFrom l m (loadCall l m .state)
 loaded l m e = let a = load-facts l m e in rw (load-accepted l m a) (fresh-loaded l m a)

@@ -11,8 +11,8 @@ use Rattle.model.specs.Choice.{if_then_else_}
 use Rattle.model.specs.Words.{aligned}
 use Rattle.model.specs.Bytes.{number}
 use Rattle.model.specs.Instruction.{plan}
-use Rattle.model.specs.Attempt.{Tried, Width, byte, half, word, size, stopped, go, transfer, loading, storing, obey, attempt}
-use Rattle.model.specs.Run.{Step, goes, stops, answer, run}
+use Rattle.model.specs.Attempt.{Tried, Width, byte, half, word, size, stopped, accessed, transfer, obeyLoad, obeyStore, obey, attempt}
+use Rattle.model.specs.Run.{Step, goes, stops, answered, run}
 use Rattle.model.specs.Flat.{Flat, allow, flatPut, flatInstruction}
 use Rattle.model.specs.Order.{Demand, demandOf, onwards, orderOf}
 use Rattle.model.specs.Answers.{stopNumber}
@@ -21,7 +21,7 @@ use Rattle.model.specs.declared.Access.{Access}
 use Rattle.model.specs.declared.Access.the-variants.{Illegal, Fault, At}
 use Rattle.model.specs.declared.Plan.{Plan}
 use Rattle.model.specs.declared.Plan.the-variants.{Unknown, Set, LoadByte, LoadHalf, LoadWord, StoreByte, StoreHalf, StoreWord, Trapping}
-use Rattle.model.specs.declared.Stop.the-variants.{Memory, Misaligned}
+use Rattle.model.specs.declared.Stop.the-variants.{IllegalMemory, Misaligned}
 use Rattle.model.specs.declared.Outcome.{Outcome}
 use Rattle.model.specs.declared.Outcome.the-variants.{Done, Trapped, Missing, Stopped}
 use Rattle.laws.proofs.Simulate.{run-all}
@@ -40,14 +40,14 @@ module _ (access : Bool → ℕ → Access) (gpr bytes : List ℕ) (pcs : Pcs) w
   unfolding transfer
   transfer-ends writing width va k h = pick (aligned (size width) va) (access writing va)
     where
-      pick : (x : Bool) (a : Access) → Ends ((if x then go access gpr bytes pcs a va k else stopped access gpr bytes pcs (Misaligned va)) .outcome)
+      pick : (x : Bool) (a : Access) → Ends ((if x then accessed access gpr bytes pcs a va k else stopped access gpr bytes pcs (Misaligned va)) .outcome)
       pick true Illegal = refl
       pick true Fault = tt
       pick true (At i) = h i
       pick false a = refl
 
   obey-ends : (w : ℕ) (x : Plan) → Ends (obey access gpr bytes pcs w x .outcome)
-  unfolding obey loading storing
+  unfolding obey obeyLoad obeyStore
   obey-ends w Unknown = refl
   obey-ends w (Set rd v target) = tt
   obey-ends w (LoadByte signed rd va) = transfer-ends false byte va _ (λ i. tt)
@@ -65,29 +65,32 @@ Asked ds (stops s k left) = length ds ≡ k + stoppedFetch (stopNumber s) left
 
 module _ (f : Flat) where
   abbrev again : ℕ → Step Flat
-  again va = stops (Memory va) 0 f
+  again va = stops (IllegalMemory va) 0 f
 
   abbrev obeyed : ℕ → Tried
   obeyed i = obey (allow (f .rights)) (f .gpr) (f .bytes) (f .pcs) (number 4 (f .bytes) i) (plan (f .gpr) (f .pcs .next) (number 4 (f .bytes) i))
 
   -- after a legal fetch
-  fetched-asked : (d : Demand) (t : Tried) → Ends (t .outcome) → fetches f ≡ true → Asked (d ∷ []) (answer f (flatPut f) again t)
+  fetched-stop : (n : ℕ) → leb 2 n ≡ true → fetches f ≡ true → 1 ≡ 0 + stoppedFetch n f
+  fetched-stop n h e = simp (h, e) refl
+
+  fetched-asked : (d : Demand) (t : Tried) → Ends (t .outcome) → fetches f ≡ true → Asked (d ∷ []) (answered f (flatPut f) again t)
   fetched-asked d t h e = by (t .outcome) h
     where
-      by : (o : Outcome) → Ends o → Asked (d ∷ []) (answer f (flatPut f) again (record { outcome = o; gpr = t .gpr; bytes = t .bytes }))
+      by : (o : Outcome) → Ends o → Asked (d ∷ []) (answered f (flatPut f) again (record { outcome = o; gpr = t .gpr; bytes = t .bytes }))
       by (Done pcs) u = refl
       by (Trapped pcs n) u = refl
-      by (Missing va) u = rw e refl
-      by (Stopped s) u = rw (u, e) refl
+      by (Missing va) u = fetched-stop 2 refl e
+      by (Stopped s) u = fetched-stop (stopNumber s) u e
 
   flat-asked : Asked (demandOf f) (flatInstruction f)
-  unfolding demandOf flatInstruction attempt
+  unfolding demandOf flatInstruction attempt transfer
   flat-asked = pick (aligned 4 (f .pcs .dpc)) refl (allow (f .rights) false (f .pcs .dpc)) refl
     where
       pick : (x : Bool) → aligned 4 (f .pcs .dpc) ≡ x → (a : Access) → allow (f .rights) false (f .pcs .dpc) ≡ a → Asked (demandOf f) (flatInstruction f)
-      pick false h a e = rw h (rw h refl)
-      pick true h Illegal e = rw (h, e) (rw (h, e) refl)
-      pick true h Fault e = rw (h, e) (rw (h, e) refl)
+      pick false h a e = simp h refl
+      pick true h Illegal e = simp (h, e) refl
+      pick true h Fault e = simp (h, e) refl
       pick true h (At i) e =
           rw (h, e) (fetched-asked _ (obeyed i) (obey-ends (allow (f .rights)) (f .gpr) (f .bytes) (f .pcs) _ _) (rw (h, e) refl))
 

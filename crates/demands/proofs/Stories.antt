@@ -4,7 +4,6 @@ use mathlib.Core.Path.{_≡_, refl, sym, ap, ap₂, subst, _∙_}
 use mathlib.Core.Bool.{true}
 use mathlib.Core.List.{List, [], _∷_, _++_, append-nil}
 use Prim.Native.Nat.{ℕ, suc, _+_}
-use native.Mathlib.Nat.{zero-add, add-assoc}
 use native.Mathlib.Omega.{arith}
 use lib.ListN.{length, length-append}
 use Rattle.model.specs.State.{State}
@@ -25,23 +24,15 @@ use Rattle.laws.proofs.Simulate.{run-all}
 use Rattle.laws.proofs.Instruction.{instruction-right}
 use Rattle.laws.proofs.Run.{GoodCounted, keeps, first-shape}
 use Rattle.laws.proofs.Calls.{call-good, call-size}
-use Rattle.bound.specs.Orders.{firstCome}
-use Rattle.bound.specs.Frames.{pages}
+use Rattle.bound.specs.Orders.{Order}
+use Rattle.bound.specs.Frames.{pages, Keeps}
 use Rattle.bound.specs.Handler as large
+use Rattle.bound.proofs.Handler.{handle-append}
 use Rattle.demands.specs.Brought.{instructionBrings, runBrings, callBrings, seriesBrings, Steps, no-step, one-step}
 use Rattle.demands.specs.Demand3.{frames, residents}
 use Rattle.demands.proofs.Turns.{atLarge, Handled, instruction-handled}
 
 -- ---- one part after another
-handle-append : (a : ℕ) (ds es : List Demand) (q : List VirtualPage)
-    → (large.handle firstCome a (ds ++ es) q .loads ≡ large.handle firstCome a ds q .loads + large.handle firstCome a es (large.handle firstCome a ds q .left) .loads)
-    × (large.handle firstCome a (ds ++ es) q .left ≡ large.handle firstCome a es (large.handle firstCome a ds q .left) .left)
-unfolding large.handle
-handle-append a [] es q = (sym (zero-add _), refl)
-handle-append a (d ∷ ds) es q =
-    let t = handle-append a ds es (large.carry firstCome a 3 d q .left) in
-    (ap (λ (n : ℕ). large.carry firstCome a 3 d q .loads + n) (t .0) ∙ sym (add-assoc _ _ _), t .1)
-
 steps-join : {a : ℕ} {ys zs : List VirtualPage} {b b′ b″ : FrameBook} → Steps a b ys b′ → Steps a b′ zs b″ → Steps a b (ys ++ zs) b″
 steps-join no-step t = t
 steps-join (one-step y r s) t = one-step y r (steps-join s t)
@@ -49,23 +40,7 @@ steps-join (one-step y r s) t = one-step y r (steps-join s t)
 steps-over : {a a′ : ℕ} {ys : List VirtualPage} {b b′ : FrameBook} → a ≡ a′ → Steps a b ys b′ → Steps a′ b ys b′
 steps-over {ys = ys} {b = b} {b′ = b′} e t = subst (λ (x : ℕ). Steps x b ys b′) e t
 
-join : (c e z : Counted) (ys zs : List VirtualPage) (ds es : List Demand) → frames (e .state) ≡ frames (c .state)
-    → Handled c e ys (atLarge (c .state) ds)
-    → Handled e z zs (atLarge (e .state) es)
-    → Handled c z (ys ++ zs) (atLarge (c .state) (ds ++ es))
-join c e z ys zs ds es same t u =
-    let w = handle-append (frames (c .state)) ds es (residents (c .state)) in
-    let v : Handled e z zs (large.handle firstCome (frames (c .state)) es (atLarge (c .state) ds .left))
-    = subst (λ x. Handled e z zs x) (ap₂ (λ (a : ℕ) (l : List VirtualPage). large.handle firstCome a es l) same (t .left)) u in
-    record {
-      counted = omega (arith, v .counted, t .counted, length-append ys zs);
-      many = omega (arith, v .many, t .many, length-append ys zs, w .0);
-      left = v .left ∙ sym (w .1);
-      steps = steps-join (t .steps) (steps-over same (v .steps));
-    }
-
--- ---- a run
--- its order, by what its first instruction comes to
+-- ---- the order of a run and what it brings in, by what its first instruction comes to
 first-order : (n : ℕ) (c : Counted) → Good (c .state) → (r : Step Counted) → instruction c ≡ r
     → orderOf (suc n) (flatOf c) ≡ demandOf (flatOf c) ++ onwards (mapStep flatOf r) (λ next. orderOf n next)
 unfolding orderOf
@@ -77,71 +52,91 @@ first-brings : (n : ℕ) (c : Counted) (r : Step Counted) → instruction c ≡ 
 unfolding runBrings
 first-brings n c r e = ap (λ z. instructionBrings (c .state) ++ namesOnward z (λ next. runBrings n next)) e
 
-first-handled : (c : Counted) → Good (c .state) → (r : Step Counted) → instruction c ≡ r
-    → Handled c (leaves r) (instructionBrings (c .state)) (atLarge (c .state) (demandOf (flatOf c)))
-first-handled c g r e = rw e at (instruction-handled c g)
-
-pub run-handled : (n : ℕ) (c : Counted) → Good (c .state)
-    → Handled c (run instruction n c .left) (runBrings n c) (atLarge (c .state) (orderOf n (flatOf c)))
-unfolding large.handle orderOf runBrings
-run-handled =
-    run-all instruction GoodCounted keeps
-    (λ n c r. Handled c (r .left) (runBrings n c) (atLarge (c .state) (orderOf n (flatOf c))))
-    (λ c g. record { counted = omega arith; many = refl; left = refl; steps = no-step })
-    (λ n c g s k left e h.
-    rw (first-order n c g (stops s k left) e, first-brings n c (stops s k left) e) (simp append-nil (first-handled c g (stops s k left) e)))
-    (λ n c g next e h t.
-    rw (first-order n c g (goes next) e, first-brings n c (goes next) e)
-    (join c next _ (instructionBrings (c .state)) (runBrings n next) (demandOf (flatOf c)) (orderOf n (flatOf next))
-    (ap (λ (x : Shape). x .frames) (first-shape c g next (ap leaves e))) (first-handled c g (goes next) e) t))
-
--- ---- a call, and a series of calls
 -- a state with the pages loaded so far
 abbrev pub having : State → ℕ → Counted
 having p n = record { state = p; loads = n }
 
--- a call that leaves the book as it is
-still : (p r : State) → r .machine .book ≡ p .machine .book → Handled (uncounted p) (having r 0) [] (atLarge p [])
-unfolding large.handle
-still p r e = record {
-  counted = omega arith;
-  many = refl;
-  left = ap pages e;
-  steps = subst (λ x. Steps (frames p) (p .machine .book) [] x) (sym e) no-step;
-}
-
-pub call-handled : (p : State) (c : Call) → Good p
-    → Handled (uncounted p) (having (after p c) (loadsOf p c)) (callBrings p c) (atLarge p (callOrder p c))
-unfolding after loadsOf callOrder callBrings runCall writeCall replyCall
-call-handled p (runs n) g = by (runVerdict p n)
-  where
-    by : (v : Verdict) → Handled (uncounted p) (having (runBy v p n .state) (runBy v p n .numbers .loads)) (namesGranted v (runBrings n (uncounted p))) (atLarge p (orderBy v p n))
-    by Granted = run-handled n (uncounted p) g
-    by (Refused r) = still p p refl
-call-handled p (reads va n) g = still p p refl
-call-handled p (writes va bytes) g = by (hostVerdict true p va (length bytes))
-  where
-    by : (v : Verdict) → Handled (uncounted p) (having (writeBy v p va bytes .state) 0) [] (atLarge p [])
-    by Granted = still p _ refl
-    by (Refused r) = still p p refl
-call-handled p (views x) g = still p p refl
-call-handled p (replies i v) g = by (replyVerdict i)
-  where
-    by : (w : Verdict) → Handled (uncounted p) (having (record { machine = replyBy w (p .machine) i v .machine; memory = p .memory }) 0) [] (atLarge p [])
-    by Granted = still p _ refl
-    by (Refused r) = still p _ refl
-
 -- the loads of a series, after n before it
-after-loads : (n : ℕ) (p r : State) (k : ℕ) (ys : List VirtualPage) (t : large.Done)
+after-loads : (n : ℕ) (p r : State) (k : ℕ) (ys : List VirtualPage) (t : large.Handling)
     → Handled (uncounted p) (having r k) ys t → Handled (having p n) (having r (n + k)) ys t
 after-loads n p r k ys t h = record { counted = omega (arith, h .counted); many = h .many; left = h .left; steps = h .steps }
 
-pub series-handled : (p : State) (cs : List Call) → Good p
-    → Handled (uncounted p) (having (afterAll p cs) (loadsOfAll p cs)) (seriesBrings p cs) (atLarge p (orderOfAll p cs))
-unfolding afterAll loadsOfAll orderOfAll seriesBrings
-series-handled p [] g = still p p refl
-series-handled p (c ∷ cs) g =
-    join (uncounted p) (having (after p c) (loadsOf p c)) (having (afterAll (after p c) cs) (loadsOf p c + loadsOfAll (after p c) cs))
-    (callBrings p c) (seriesBrings (after p c) cs) (callOrder p c) (orderOfAll (after p c) cs)
-    (ap (λ (x : Shape). x .frames) (call-size p g c .shape)) (call-handled p c g)
-    (after-loads (loadsOf p c) (after p c) (afterAll (after p c) cs) (loadsOfAll (after p c) cs) _ _ (series-handled (after p c) cs (call-good p g c)))
+-- ---- a machine whose book keeps the order o
+module _ (o : Order) (kept : Keeps o) where
+  join : (c e z : Counted) (ys zs : List VirtualPage) (ds es : List Demand) → frames (e .state) ≡ frames (c .state)
+      → Handled c e ys (atLarge o (c .state) ds)
+      → Handled e z zs (atLarge o (e .state) es)
+      → Handled c z (ys ++ zs) (atLarge o (c .state) (ds ++ es))
+  join c e z ys zs ds es same t u =
+      let w = handle-append o (frames (c .state)) ds es (residents (c .state)) in
+      let v : Handled e z zs (large.handle o (frames (c .state)) es (atLarge o (c .state) ds .left))
+      = subst (λ x. Handled e z zs x) (ap₂ (λ (a : ℕ) (l : List VirtualPage). large.handle o a es l) same (t .left)) u in
+      record {
+        counted = omega (arith, v .counted, t .counted, length-append ys zs);
+        many = omega (arith, v .many, t .many, length-append ys zs, w .0);
+        left = v .left ∙ sym (w .1);
+        steps = steps-join (t .steps) (steps-over same (v .steps));
+      }
+
+  -- ---- a run
+  first-handled : (c : Counted) → Good (c .state) → (r : Step Counted) → instruction c ≡ r
+      → Handled c (leaves r) (instructionBrings (c .state)) (atLarge o (c .state) (demandOf (flatOf c)))
+  first-handled c g r e = rw e at (instruction-handled o kept c g)
+
+  pub run-handled : (n : ℕ) (c : Counted) → Good (c .state)
+      → Handled c (run instruction n c .left) (runBrings n c) (atLarge o (c .state) (orderOf n (flatOf c)))
+  unfolding large.handle orderOf runBrings
+  run-handled =
+      run-all instruction GoodCounted keeps
+      (λ n c r. Handled c (r .left) (runBrings n c) (atLarge o (c .state) (orderOf n (flatOf c))))
+      (λ c g. record { counted = omega arith; many = refl; left = refl; steps = no-step })
+      (λ n c g s k left e h.
+      rw (first-order n c g (stops s k left) e, first-brings n c (stops s k left) e) (simp append-nil (first-handled c g (stops s k left) e)))
+      (λ n c g next e h t.
+      rw (first-order n c g (goes next) e, first-brings n c (goes next) e)
+      (join c next _ (instructionBrings (c .state)) (runBrings n next) (demandOf (flatOf c)) (orderOf n (flatOf next))
+      (ap (λ (x : Shape). x .frames) (first-shape c g next (ap leaves e))) (first-handled c g (goes next) e) t))
+
+  -- ---- a call, and a series of calls
+  -- a call that leaves the book as it is
+  still : (p r : State) → r .machine .book ≡ p .machine .book → Handled (uncounted p) (having r 0) [] (atLarge o p [])
+  unfolding large.handle
+  still p r e = record {
+    counted = omega arith;
+    many = refl;
+    left = ap pages e;
+    steps = subst (λ x. Steps (frames p) (p .machine .book) [] x) (sym e) no-step;
+  }
+
+  pub call-handled : (p : State) (c : Call) → Good p
+      → Handled (uncounted p) (having (after p c) (loadsOf p c)) (callBrings p c) (atLarge o p (callOrder p c))
+  unfolding after loadsOf callOrder callBrings runCall writeCall replyCall
+  call-handled p (runs n) g = by (runVerdict p n)
+    where
+      by : (v : Verdict)
+          → Handled (uncounted p) (having (runBy v p n .state) (runBy v p n .numbers .loads)) (namesGranted v (runBrings n (uncounted p)))
+          (atLarge o p (orderBy v p n))
+      by Granted = run-handled n (uncounted p) g
+      by (Refused r) = still p p refl
+  call-handled p (reads va n) g = still p p refl
+  call-handled p (writes va bytes) g = by (hostVerdict true p va (length bytes))
+    where
+      by : (v : Verdict) → Handled (uncounted p) (having (writeBy v p va bytes .state) 0) [] (atLarge o p [])
+      by Granted = still p _ refl
+      by (Refused r) = still p p refl
+  call-handled p (views x) g = still p p refl
+  call-handled p (replies i v) g = by (replyVerdict i)
+    where
+      by : (w : Verdict) → Handled (uncounted p) (having (record { machine = replyBy w (p .machine) i v .machine; memory = p .memory }) 0) [] (atLarge o p [])
+      by Granted = still p _ refl
+      by (Refused r) = still p _ refl
+
+  pub series-handled : (p : State) (cs : List Call) → Good p
+      → Handled (uncounted p) (having (afterAll p cs) (loadsOfAll p cs)) (seriesBrings p cs) (atLarge o p (orderOfAll p cs))
+  unfolding afterAll loadsOfAll orderOfAll seriesBrings
+  series-handled p [] g = still p p refl
+  series-handled p (c ∷ cs) g =
+      join (uncounted p) (having (after p c) (loadsOf p c)) (having (afterAll (after p c) cs) (loadsOf p c + loadsOfAll (after p c) cs))
+      (callBrings p c) (seriesBrings (after p c) cs) (callOrder p c) (orderOfAll (after p c) cs)
+      (ap (λ (x : Shape). x .frames) (call-size p g c .shape)) (call-handled p c g)
+      (after-loads (loadsOf p c) (after p c) (afterAll (after p c) cs) (loadsOfAll (after p c) cs) _ _ (series-handled (after p c) cs (call-good p g c)))

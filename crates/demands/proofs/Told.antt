@@ -13,8 +13,8 @@ use Rattle.model.specs.Pages.{pageOf}
 use Rattle.model.specs.Table.{entry}
 use Rattle.model.specs.State.{Memory, State}
 use Rattle.model.specs.Sound.{fits, sound}
-use Rattle.model.specs.Translate.{has, translate}
-use Rattle.model.specs.Calls.{legal, permitted, viewable}
+use Rattle.model.specs.Translate.{has, translate, legal}
+use Rattle.model.specs.Calls.{permitted, viewable}
 use Rattle.model.specs.Image.{trailer, ptlOf, framesOf, known, wellFormed, room}
 use Rattle.model.specs.declared.VirtualPage.{VirtualPage}
 use Rattle.laws.specs.Good.{Good}

@@ -3,10 +3,10 @@ use mathlib.Core.Path.{_≡_, refl, sym, ap, ap₂, _∙_}
 use mathlib.Core.List.{[], _∷_}
 use Prim.Native.Nat.{ℕ}
 use lib.ListN.{getD}
-use Rattle.model.specs.Answers.{stopNumber, stopDetail, refusalNumber, verdictNumber, RunNumbers, runNumbers, ImageNumbers, imageNumbers}
-use Rattle.model.specs.Calls.{RunOutcome, ReadOutcome, StateOutcome, ReplyOutcome}
+use Rattle.model.specs.Answers.{stopNumber, stopDetail, refusalNumber, verdictNumbers, RunNumbers, runNumbers, ImageNumbers, imageNumbers}
+use Rattle.model.specs.Calls.{RunOutcome, ReadOutcome, StateOutcome, ViewOutcome, ReplyOutcome}
 use Rattle.model.specs.declared.Stop.{Stop}
-use Rattle.model.specs.declared.Stop.the-variants.{Limit, Trap, Memory, Misaligned, Instruction}
+use Rattle.model.specs.declared.Stop.the-variants.{Limit, Trap, IllegalMemory, Misaligned, IllegalInstruction}
 use Rattle.model.specs.declared.Refusal.{Refusal}
 use Rattle.model.specs.declared.Refusal.the-variants.{Bound, Unsound, Rights, TooMuch, Edition, Format, Room}
 use Rattle.model.specs.declared.Verdict.{Verdict}
@@ -28,7 +28,7 @@ verdictOf : ℕ → Verdict
 verdictOf n =
     getD (Granted ∷ Refused Bound ∷ Refused Unsound ∷ Refused Rights ∷ Refused TooMuch ∷ Refused Edition ∷ Refused Format ∷ Refused Room ∷ []) n Granted
 
-verdict-again : (v : Verdict) → verdictOf (verdictNumber v) ≡ v
+verdict-again : (v : Verdict) → verdictOf (verdictNumbers v .refused) ≡ v
 unfolding verdictOf
 verdict-again Granted = refl
 verdict-again (Refused Bound) = refl
@@ -39,23 +39,23 @@ verdict-again (Refused Edition) = refl
 verdict-again (Refused Format) = refl
 verdict-again (Refused Room) = refl
 
-verdict-told : (x y : Verdict) → verdictNumber x ≡ verdictNumber y → x ≡ y
-verdict-told = told verdictNumber verdictOf verdict-again
+verdict-told : (x y : Verdict) → verdictNumbers x ≡ verdictNumbers y → x ≡ y
+verdict-told = told verdictNumbers (λ n. verdictOf (n .refused)) verdict-again
 
 refusal-told : (x y : Refusal) → refusalNumber x ≡ refusalNumber y → x ≡ y
-refusal-told x y e = let q : Refused x ≡ Refused y = verdict-told (Refused x) (Refused y) e in cc
+refusal-told x y e = let q : Refused x ≡ Refused y = sym (verdict-again (Refused x)) ∙ ap verdictOf e ∙ verdict-again (Refused y) in cc
 
 -- ---- the stop
 stopOf : ℕ → ℕ → Stop
-stopOf n detail = getD (Limit ∷ Trap detail ∷ Memory detail ∷ Misaligned detail ∷ Instruction detail ∷ []) n Limit
+stopOf n detail = getD (Limit ∷ Trap detail ∷ IllegalMemory detail ∷ Misaligned detail ∷ IllegalInstruction detail ∷ []) n Limit
 
 stop-again : (s : Stop) → stopOf (stopNumber s) (stopDetail s) ≡ s
 unfolding stopOf
 stop-again Limit = refl
 stop-again (Trap n) = refl
-stop-again (Memory va) = refl
+stop-again (IllegalMemory va) = refl
 stop-again (Misaligned va) = refl
-stop-again (Instruction w) = refl
+stop-again (IllegalInstruction w) = refl
 
 stop-told : (x y : Stop) → stopNumber x ≡ stopNumber y → stopDetail x ≡ stopDetail y → x ≡ y
 stop-told x y e d = sym (stop-again x) ∙ ap₂ stopOf e d ∙ stop-again y
@@ -65,28 +65,28 @@ runOf : RunNumbers → Verdict → RunAnswer
 runOf n Granted = Ran (stopOf (n .stop) (n .detail)) (n .finished) (n .loads)
 runOf n (Refused r) = NotRun r
 
-run-again : (a : RunAnswer) → runOf (runNumbers a) (verdictOf (runNumbers a .refused)) ≡ a
+run-again : (a : RunAnswer) → runOf (runNumbers a) (verdictOf (runNumbers a .verdict .refused)) ≡ a
 unfolding verdictOf runOf
 run-again (Ran s finished loads) = ap (λ t. Ran t finished loads) (stop-again s)
 run-again (NotRun r) = ap (runOf (runNumbers (NotRun r))) (verdict-again (Refused r))
 
 run-told : (x y : RunAnswer) → runNumbers x ≡ runNumbers y → x ≡ y
-run-told = told runNumbers (λ n. runOf n (verdictOf (n .refused))) run-again
+run-told = told runNumbers (λ n. runOf n (verdictOf (n .verdict .refused))) run-again
 
 imageOf : ImageNumbers → Verdict → ImageAnswer
 imageOf n Granted = Image (n .ptl) (n .start) (n .frames)
 imageOf n (Refused r) = NotImage r
 
-image-again : (a : ImageAnswer) → imageOf (imageNumbers a) (verdictOf (imageNumbers a .refused)) ≡ a
+image-again : (a : ImageAnswer) → imageOf (imageNumbers a) (verdictOf (imageNumbers a .verdict .refused)) ≡ a
 unfolding verdictOf imageOf
 image-again (Image ptl start frames) = refl
 image-again (NotImage r) = ap (imageOf (imageNumbers (NotImage r))) (verdict-again (Refused r))
 
 image-told : (x y : ImageAnswer) → imageNumbers x ≡ imageNumbers y → x ≡ y
-image-told = told imageNumbers (λ n. imageOf n (verdictOf (n .refused))) image-again
+image-told = told imageNumbers (λ n. imageOf n (verdictOf (n .verdict .refused))) image-again
 
 -- ---- two that make one outcome
-handed-same : (r r′ : Handed) → verdictNumber (r .verdict) ≡ verdictNumber (r′ .verdict) → r .machine ≡ r′ .machine → r ≡ r′
+handed-same : (r r′ : Handed) → verdictNumbers (r .verdict) ≡ verdictNumbers (r′ .verdict) → r .machine ≡ r′ .machine → r ≡ r′
 handed-same r r′ v m = ap₂ {C = Handed} (λ x y. record { machine = x; verdict = y }) m (verdict-told (r .verdict) (r′ .verdict) v)
 
 numbers-tell : NumbersTell
@@ -102,17 +102,20 @@ unique = record {
     ap (λ (p : RunOutcome). p .state .memory .swap) (e ∙ sym e′),
   );
   read = λ o v v′ buffer buffer′ e e′. (
-    verdict-told v v′ (ap (λ (p : ReadOutcome). p .refused) (e ∙ sym e′)),
+    verdict-told v v′ (ap (λ (p : ReadOutcome). p .verdict) (e ∙ sym e′)),
     ap (λ (p : ReadOutcome). p .buffer) (e ∙ sym e′),
   );
   write-and-loading = λ o r r′ main main′ swap swap′ e e′. (
-    handed-same r r′ (ap (λ (p : StateOutcome). p .refused) (e ∙ sym e′)) (ap (λ (p : StateOutcome). p .state .machine) (e ∙ sym e′)),
+    handed-same r r′ (ap (λ (p : StateOutcome). p .verdict) (e ∙ sym e′)) (ap (λ (p : StateOutcome). p .state .machine) (e ∙ sym e′)),
     ap (λ (p : StateOutcome). p .state .memory .main) (e ∙ sym e′),
     ap (λ (p : StateOutcome). p .state .memory .swap) (e ∙ sym e′),
   );
   reply = λ o r r′ e e′.
-      handed-same r r′ (ap (λ (p : ReplyOutcome). p .refused) (e ∙ sym e′)) (ap (λ (p : ReplyOutcome). p .machine) (e ∙ sym e′));
-  view = λ o v v′ part part′ e e′. (verdict-told v v′ (e .refused ∙ sym (e′ .refused)), e .part-is ∙ sym (e′ .part-is));
+      handed-same r r′ (ap (λ (p : ReplyOutcome). p .verdict) (e ∙ sym e′)) (ap (λ (p : ReplyOutcome). p .machine) (e ∙ sym e′));
+  view = λ o v v′ part part′ e e′. (
+    verdict-told v v′ (ap (λ (p : ViewOutcome). p .verdict) (e ∙ sym e′)),
+    ap (λ (p : ViewOutcome). p .part) (e ∙ sym e′),
+  );
   image = λ o a a′ pages pages′ rights rights′ e e′. (
     image-told a a′ (e .numbers ∙ sym (e′ .numbers)),
     e .pages-are ∙ sym (e′ .pages-are),

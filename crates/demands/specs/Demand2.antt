@@ -31,14 +31,14 @@ pub record Demand2 (p : State) : Type 0 where
   pub loads : (n : ℕ) → FewLoads (runCall p n .numbers)
   pub halted : (n : ℕ) → Halting (runCall p n) → Halts (flat p) (runCall p n)
   -- "The host's reads and writes meet that same flat memory."
-  pub read : (va : ℕ) (buffer : List ℕ) → readCall p va buffer .refused ≡ 0
+  pub read : (va : ℕ) (buffer : List ℕ) → readCall p va buffer .verdict .refused ≡ 0
       → readCall p va buffer .buffer ≡ take (length buffer) (drop va (flat p .bytes))
-  pub viewed : (x : VirtualPage) → viewCall p x .refused ≡ 0 → viewCall p x .part ≡ page (flat p .bytes) (x .0)
-  pub written : (va : ℕ) (bytes : List ℕ) → writeCall p va bytes .refused ≡ 0
+  pub viewed : (x : VirtualPage) → viewCall p x .verdict .refused ≡ 0 → viewCall p x .part ≡ page (flat p .bytes) (x .0)
+  pub written : (va : ℕ) (bytes : List ℕ) → writeCall p va bytes .verdict .refused ≡ 0
       → flat (writeCall p va bytes .state) ≡ flatWrite (flat p) va bytes
   -- a write leaves the record as it is, so that no page is loaded; a reply changes the one register
   pub recorded : (va : ℕ) (bytes : List ℕ) → writeCall p va bytes .state .machine ≡ p .machine
-  pub replied : (i v : ℕ) → replyCall (p .machine) i v .refused ≡ 0 → replyCall (p .machine) i v .machine ≡ withRegister (p .machine) i v
+  pub replied : (i v : ℕ) → replyCall (p .machine) i v .verdict .refused ≡ 0 → replyCall (p .machine) i v .machine ≡ withRegister (p .machine) i v
   -- a sound machine stays sound, refused or not; its shape stays, and the lengths of both memories
   pub sound : (c : Call) → Good (after p c)
   pub size : (c : Call) → SameSize p (after p c)

@@ -12,8 +12,9 @@ use Rattle.model.specs.Words.{aligned}
 use Rattle.model.specs.Frames.{emptyBook}
 use Rattle.model.specs.State.{State}
 use Rattle.model.specs.Run.{Counted, uncounted, instruction}
+use Rattle.model.specs.Translate.{legal}
 use Rattle.model.specs.Flat.{Flat, allow, flat}
-use Rattle.model.specs.Order.{Demand, granted, demandOf, orderOf}
+use Rattle.model.specs.Order.{Demand, demandOf, orderOf}
 use Rattle.model.specs.Calls.{RunOutcome, runCall}
 use Rattle.model.specs.Series.{Call, afterAll, loadsOfAll, orderOfAll}
 use Rattle.model.specs.declared.VirtualPage.{VirtualPage}
@@ -22,7 +23,7 @@ use Rattle.laws.specs.Mapped.{leaves}
 use Rattle.bound.specs.Pages.{_⊆_}
 use Rattle.bound.specs.Schedule.{Holds, Schedule, brings}
 use Rattle.bound.specs.Rule.{pagesOf}
-use Rattle.bound.specs.Orders.{firstCome}
+use Rattle.bound.specs.Orders.{Order, firstCome}
 use Rattle.bound.specs.Story.{Turn, Story}
 use Rattle.bound.specs.Frames.{pages}
 use Rattle.demands.specs.Brought.{instructionBrings, runBrings, seriesBrings, Steps}
@@ -34,29 +35,33 @@ frames p = p .machine .shape .frames
 abbrev pub residents : State → List VirtualPage
 residents p = pages (p .machine .book)
 
--- ---- an instruction, from c to e, that brings the pages ys in
+-- "So pages leave in the order of arrival": the machine's order of leaving
+abbrev pub leaving : Order
+leaving = firstCome
+
+-- ---- an instruction, from c to e, that brings the pages ys in, with the order o of leaving
 -- With the demand d it brings in pages of d alone, each of them missing then; at its end all pages of d are resident together.
-pub record Turned (d : Demand) (c e : Counted) (ys : List VirtualPage) : Type 0 where
+pub record DemandServed (o : Order) (d : Demand) (c e : Counted) (ys : List VirtualPage) : Type 0 where
   pub counted : e .loads ≡ c .loads + length ys
   pub steps : Steps (frames (c .state)) (c .state .machine .book) ys (e .state .machine .book)
   pub own : ys ⊆ pagesOf d
-  pub turn : Turn firstCome (frames (c .state)) d (residents (c .state)) (length ys) (residents (e .state))
+  pub turn : Turn o (frames (c .state)) d (residents (c .state)) (length ys) (residents (e .state))
   pub together : Holds (residents (e .state)) d
 
 -- One whose fetch is misaligned or illegal has no demand: it loads nothing, and the book stays.
-abbrev pub Serves : List Demand → Counted → Counted → List VirtualPage → Type 0
-Serves [] c e ys = (e .loads ≡ c .loads) × (e .state .machine .book ≡ c .state .machine .book)
-Serves (d ∷ []) c e ys = Turned d c e ys
-Serves (d ∷ more ∷ ds) c e ys = ⊥
+abbrev pub Serves : Order → List Demand → Counted → Counted → List VirtualPage → Type 0
+Serves o [] c e ys = (e .loads ≡ c .loads) × (e .state .machine .book ≡ c .state .machine .book)
+Serves o (d ∷ []) c e ys = DemandServed o d c e ys
+Serves o (d ∷ more ∷ ds) c e ys = ⊥
 
 abbrev pub InstructionServed : Type 0
 InstructionServed =
-    (c : Counted) → Good (c .state) → Serves (demandOf (flat (c .state))) c (leaves (instruction c)) (instructionBrings (c .state))
+    (c : Counted) → Good (c .state) → Serves leaving (demandOf (flat (c .state))) c (leaves (instruction c)) (instructionBrings (c .state))
 
 -- ---- a run of at most n instructions from p on, which is not refused
 -- the fetch is aligned and legal
 abbrev pub fetches : Flat → Bool
-fetches f = aligned 4 (f .pcs .dpc) && granted (allow (f .rights) false (f .pcs .dpc))
+fetches f = aligned 4 (f .pcs .dpc) && legal (allow (f .rights) false (f .pcs .dpc))
 
 -- "an instruction that stops after a legal fetch": 1 where a run that ended by this stop in f has one at its end
 abbrev pub stoppedFetch : ℕ → Flat → ℕ
@@ -64,14 +69,14 @@ stoppedFetch stop f = if leb 2 stop && fetches f then 1 else 0
 
 -- The loads that it reports are the handler's steps, and those of its instructions in their order. The order has each instruction
 -- finished and the one that stopped after a legal fetch.
-pub record RunServed (p : State) (n : ℕ) (r : RunOutcome) : Type 0 where
+pub record RunServed (o : Order) (p : State) (n : ℕ) (r : RunOutcome) : Type 0 where
   pub counted : r .numbers .loads ≡ length (runBrings n (uncounted p))
   pub steps : Steps (frames p) (p .machine .book) (runBrings n (uncounted p)) (r .state .machine .book)
-  pub story : Story firstCome (frames p) (residents p) (orderOf n (flat p)) (r .numbers .loads) (residents (r .state))
+  pub story : Story o (frames p) (residents p) (orderOf n (flat p)) (r .numbers .loads) (residents (r .state))
   pub order : length (orderOf n (flat p)) ≡ r .numbers .finished + stoppedFetch (r .numbers .stop) (flat (r .state))
 
 abbrev pub RunsServed : Type 0
-RunsServed = (p : State) → Good p → (n : ℕ) → n ≤ 1000000 → RunServed p n (runCall p n)
+RunsServed = (p : State) → Good p → (n : ℕ) → n ≤ 1000000 → RunServed leaving p n (runCall p n)
 
 -- ---- any series of calls from a fresh machine with a frames; refused calls are among them
 pub record Fresh (a : ℕ) (p : State) : Type 0 where

@@ -11,7 +11,7 @@ use Rattle.model.specs.declared.Stop.the-variants.{Limit}
 -- The call with outcome o does what the flat machine does in the course c: the same stop and detail, as many instructions finished, and
 -- the flat machine of what it leaves (registers, memory, rights) is what c leaves.
 pub record RunsFlat (o : RunOutcome) (c : Course Flat) : Type 0 where
-  pub granted : o .numbers .refused ≡ 0
+  pub taken : o .numbers .verdict .refused ≡ 0
   pub stop : o .numbers .stop ≡ stopNumber (c .stop)
   pub detail : o .numbers .detail ≡ stopDetail (c .stop)
   pub finished : o .numbers .finished ≡ c .finished

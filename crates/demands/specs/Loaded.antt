@@ -4,7 +4,7 @@
 use mathlib.Core.Path.{_≡_}
 use mathlib.Core.Bool.{true}
 use mathlib.Core.List.{List}
-use Prim.Native.Nat.{ℕ, _/_}
+use Prim.Native.Nat.{ℕ}
 use lib.ListN.{length, replicate}
 use Rattle.model.specs.Words.{plus}
 use Rattle.model.specs.Frames.{emptyBook}
@@ -12,8 +12,7 @@ use Rattle.model.specs.State.{Memory, State}
 use Rattle.model.specs.Sound.{fits, sound}
 use Rattle.model.specs.Flat.{Flat, flat}
 use Rattle.model.specs.Calls.{machineVerdict}
-use Rattle.model.specs.Image.{ptlOf, startOf, framesOf, rightsOf, pagesOf, meant}
-use Rattle.model.specs.declared.Shape.{Shape}
+use Rattle.model.specs.Image.{startOf, framesOf, rightsOf, pagesOf, meant, freshShape}
 use Rattle.model.specs.declared.Verdict.{Verdict}
 use Rattle.laws.specs.Good.{Good}
 
@@ -26,16 +25,11 @@ imageFlat l = record {
   rights = rightsOf l;
 }
 
--- "Loading makes P the lent main pages, a the frames, abase 1, pto 0, sbase 0."
-abbrev pub imageShape : List ℕ → ℕ → Shape
-imageShape l mainLength =
-    record { pages = mainLength / 4096; frames = meant (framesOf l); abase = 1; ptl = ptlOf l; pto = 0; sbase = 0 }
-
 -- p is loaded from the image l into the memories m
-pub record Loaded (l : List ℕ) (m : Memory) (p : State) : Type 0 where
+pub record LoadedFrom (l : List ℕ) (m : Memory) (p : State) : Type 0 where
   pub good : Good p
   pub stands : flat p ≡ imageFlat l
-  pub shape : p .machine .shape ≡ imageShape l (length (m .main))
+  pub shape : p .machine .shape ≡ freshShape l (length (m .main))
   pub frames : p .machine .shape .frames ≡ meant (framesOf l)
   pub book : p .machine .book ≡ emptyBook
   pub main-long : length (p .memory .main) ≡ length (m .main)

@@ -10,12 +10,12 @@ use Rattle.laws.specs.Good.{Good}
 use Rattle.demands.specs.Demand1.{Demand1}
 use Rattle.demands.specs.Demand2.{Demand2}
 use Rattle.demands.specs.Demand3.{SeriesServed}
-use Rattle.demands.specs.Loaded.{Loaded}
+use Rattle.demands.specs.Loaded.{LoadedFrom}
 use Rattle.demands.specs.Unique.{Unique}
 
 -- loading the image l into the memories m is not refused
 abbrev pub Taken : List ℕ → Memory → Type 0
-Taken l m = loadCall l m .refused ≡ 0
+Taken l m = loadCall l m .verdict .refused ≡ 0
 
 -- the machine that it makes, and what a series of calls leaves of it
 abbrev pub start : List ℕ → Memory → State
@@ -26,7 +26,7 @@ later l m cs = afterAll (start l m) cs
 
 -- the machine stands for its image, and after the calls it is sound, and every call on it meets demand 2
 pub record FlatThroughout (l : List ℕ) (m : Memory) (cs : List Call) : Type 0 where
-  pub loaded : Loaded l m (start l m)
+  pub loaded : LoadedFrom l m (start l m)
   pub sound : Good (later l m cs)
   pub calls : Demand2 (later l m cs)
 

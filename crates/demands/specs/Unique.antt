@@ -4,7 +4,7 @@ use mathlib.Core.Path.{_≡_}
 use mathlib.Core.List.{List}
 use Prim.Native.Nat.{ℕ}
 use Rattle.model.specs.State.{state}
-use Rattle.model.specs.Answers.{stopNumber, stopDetail, refusalNumber, verdictNumber, runNumbers, imageNumbers}
+use Rattle.model.specs.Answers.{stopNumber, stopDetail, refusalNumber, verdictNumbers, runNumbers, imageNumbers}
 use Rattle.model.specs.Calls.{RunOutcome, runOutcome, ReadOutcome, StateOutcome, ViewOutcome, ReplyOutcome}
 use Rattle.model.specs.Image.{ImageOutcome}
 use Rattle.model.specs.declared.Stop.{Stop}
@@ -20,19 +20,18 @@ abbrev pub RunPromise : RunOutcome → RunResult → List ℕ → List ℕ → T
 RunPromise o r main swap = runOutcome (r .answer) (state (r .machine) main swap) ≡ o
 
 abbrev pub ReadPromise : ReadOutcome → Verdict → List ℕ → Type 0
-ReadPromise o v buffer = record { refused = verdictNumber v; buffer = buffer } ≡ o
+ReadPromise o v buffer = record { verdict = verdictNumbers v; buffer = buffer } ≡ o
 
 -- host write and loading
 abbrev pub StatePromise : StateOutcome → Handed → List ℕ → List ℕ → Type 0
-StatePromise o r main swap = record { refused = verdictNumber (r .verdict); state = state (r .machine) main swap } ≡ o
+StatePromise o r main swap = record { verdict = verdictNumbers (r .verdict); state = state (r .machine) main swap } ≡ o
 
 abbrev pub ReplyPromise : ReplyOutcome → Handed → Type 0
-ReplyPromise o r = record { refused = verdictNumber (r .verdict); machine = r .machine } ≡ o
+ReplyPromise o r = record { verdict = verdictNumbers (r .verdict); machine = r .machine } ≡ o
 
 -- the page view: its verdict, and the part that it hands back
-pub record ViewPromise (o : ViewOutcome) (v : Verdict) (part : List ℕ) : Type 0 where
-  pub refused : verdictNumber v ≡ o .refused
-  pub part-is : part ≡ o .part
+abbrev pub ViewPromise : ViewOutcome → Verdict → List ℕ → Type 0
+ViewPromise o v part = record { verdict = verdictNumbers v; part = part } ≡ o
 
 -- the reader of images: its answer, and the two sections
 pub record ImagePromise (o : ImageOutcome) (a : ImageAnswer) (pages rights : List ℕ) : Type 0 where
@@ -43,7 +42,7 @@ pub record ImagePromise (o : ImageOutcome) (a : ImageAnswer) (pages rights : Lis
 -- ---- "a definition gives this paper's number and values for each of the enum's cases": no two cases have the same
 pub record NumbersTell : Type 0 where
   pub refusal : (x y : Refusal) → refusalNumber x ≡ refusalNumber y → x ≡ y
-  pub verdict : (x y : Verdict) → verdictNumber x ≡ verdictNumber y → x ≡ y
+  pub verdict : (x y : Verdict) → verdictNumbers x ≡ verdictNumbers y → x ≡ y
   pub stop : (x y : Stop) → stopNumber x ≡ stopNumber y → stopDetail x ≡ stopDetail y → x ≡ y
   pub run : (x y : RunAnswer) → runNumbers x ≡ runNumbers y → x ≡ y
   pub image : (x y : ImageAnswer) → imageNumbers x ≡ imageNumbers y → x ≡ y

@@ -10,22 +10,14 @@ use lib.Dec.{ltb}
 use Rattle.model.specs.Choice.{if_then_else_}
 use Rattle.model.specs.Instruction.{register, immediate, plan}
 use Rattle.model.specs.declared.Plan.{Plan}
-use Rattle.dlx.proofs.Words.{if-same}
-use Rattle.model.specs.declared.Plan.the-variants.{Unknown, Set, LoadByte, LoadHalf, LoadWord, StoreByte, StoreHalf, StoreWord, Trapping}
+use Rattle.dlx.specs.Registers.{registerOf}
 
--- the register that a plan writes, 0 where it writes none
-abbrev pub registerOf : Plan → ℕ
-registerOf Unknown = 0
-registerOf (Set i v target) = i
-registerOf (LoadByte signed i va) = i
-registerOf (LoadHalf signed i va) = i
-registerOf (LoadWord i va) = i
-registerOf (StoreByte va v) = 0
-registerOf (StoreHalf va v) = 0
-registerOf (StoreWord va v) = 0
-registerOf (Trapping n) = 0
+-- a test that makes no difference
+if-same : (b c : Bool) → (if b then c else c) ≡ c
+if-same true c = refl
+if-same false c = refl
 
--- the same as a test
+-- a plan writes one of the 32, as a test
 abbrev named : Plan → Bool
 named p = ltb (registerOf p) 32
 

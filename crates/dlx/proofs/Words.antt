@@ -5,12 +5,13 @@ use Prim.Native.Nat.{ℕ, _+_, _-_, _*_, _/_, _%_, _^_, _≤_, _<_}
 use native.Mathlib.Omega.{arith}
 use native.Mathlib.Nat.{div-add-mod', mod-lt, mod-eq-of-lt, mod-eq-sub-mod, add-mul, one-mul, div-lt-iff-lt-mul}
 use native.Mathlib.Decide.{decLt}
-use borrow.Author.Tests.{lt-ltb, le-ltb, ltb-true, ltb-false, eq-eqb, ne-eqb}
-use lib.Dec.{ltb}
+use borrow.Author.Tests.{lt-ltb, le-ltb, ltb-true, ltb-false, eq-eqb, ne-eqb, eqb-true}
+use lib.Dec.{ltb, eqb}
 use lib.Arith.{digits-div}
 use lib.Pow.{pow-pos, pow-add, pow-mono}
-use Rattle.model.specs.Choice.{if_then_else_}
+use Rattle.model.specs.Choice.{if_then_else_, everyBelow}
 use Rattle.model.specs.Words.{plus, below, shiftSigned, compared}
+use Rattle.laws.proofs.Choice.{every-at}
 
 -- ---- sign extension of x, a number below 2h: h is added, the bits above are left out, and h is taken away
 pub extended : (h x r : ℕ) → 4 * h ≤ 2 ^ 32 → x < 2 * h → r < 2 ^ 32 → (r + h) % 2 ^ 32 ≡ plus x h % (2 * h)
@@ -29,27 +30,44 @@ extended h x r fits small word e = pick (decLt x h)
         let f : (x + h) % (2 * h) ≡ x + h - 2 * h = mod-eq-sub-mod (omega arith) ∙ mod-eq-of-lt b in
         rw (le-ltb x h (omega arith)) (omega (arith, e ∙ ap (λ (k : ℕ). k % (2 * h)) sum ∙ f))
 
--- ---- comparisons
-module _ (c x y : ℕ) (xs : x < 2 ^ 32) (ys : y < 2 ^ 32) where
+-- ---- comparisons: for each of the eight, the answer to x and y is a bit of its number
+-- a law of the eight at two given words, row by row
+each : (f : ℕ → ℕ) (x y : ℕ) → everyBelow 8 (λ c. eqb (f c) (compared c x y)) ≡ true → (c : ℕ) → c < 8 → f c ≡ compared c x y
+each f x y e c h = eqb-true (f c) (compared c x y) (every-at 8 (λ i. eqb (f i) (compared i x y)) e c h)
+
+module _ (c x y : ℕ) (cs : c < 8) (xs : x < 2 ^ 32) (ys : y < 2 ^ 32) where
+  -- every answer to x and y is the one to 0 and 0, to 0 and 1, or to 1 and 0
   pub compared-same : x ≡ y → c / 2 % 2 ≡ compared c x y
-  compared-same e = simp (le-ltb (plus y (2 ^ 31)) (plus x (2 ^ 31)) (omega arith), eq-eqb _ _ e)
+  unfolding compared everyBelow
+  compared-same e =
+      each (λ i. i / 2 % 2) 0 0 refl c cs
+      ∙ simp (
+        le-ltb (plus y (2 ^ 31)) (plus x (2 ^ 31)) (omega arith),
+        le-ltb (plus x (2 ^ 31)) (plus y (2 ^ 31)) (omega arith),
+        eq-eqb x y e,
+      )
 
   pub compared-less : (x ≡ y → ⊥) → below x y ≡ true → c / 4 % 2 ≡ compared c x y
-  compared-less n l = simp (le-ltb (plus y (2 ^ 31)) (plus x (2 ^ 31)) (omega (arith, ltb-true (plus x (2 ^ 31)) (plus y (2 ^ 31)) l)), ne-eqb _ _ n)
+  unfolding compared everyBelow
+  compared-less n l =
+      let less : plus x (2 ^ 31) < plus y (2 ^ 31) = ltb-true (plus x (2 ^ 31)) (plus y (2 ^ 31)) l in
+      each (λ i. i / 4 % 2) 0 1 refl c cs
+      ∙ simp (le-ltb (plus y (2 ^ 31)) (plus x (2 ^ 31)) (omega arith), ne-eqb x y n, l)
 
   pub compared-more : (x ≡ y → ⊥) → below x y ≡ false → c % 2 ≡ compared c x y
-  compared-more n l = simp (lt-ltb (plus y (2 ^ 31)) (plus x (2 ^ 31)) (omega (arith, ltb-false (plus x (2 ^ 31)) (plus y (2 ^ 31)) l)))
-
--- a test that makes no difference, as in "never" and "always"
-pub if-same : {A : Type 0} (b : Bool) (a : A) → (if b then a else a) ≡ a
-if-same true a = refl
-if-same false a = refl
+  unfolding compared everyBelow
+  compared-more n l =
+      let most : plus y (2 ^ 31) ≤ plus x (2 ^ 31) = ltb-false (plus x (2 ^ 31)) (plus y (2 ^ 31)) l in
+      each (λ i. i % 2) 1 0 refl c cs
+      ∙ simp (lt-ltb (plus y (2 ^ 31)) (plus x (2 ^ 31)) (omega arith), ne-eqb x y n, l)
 
 pub compared-never : (x y : ℕ) → compared 0 x y ≡ 0
-compared-never x y = simp if-same
+unfolding compared
+compared-never x y = refl
 
 pub compared-always : (x y : ℕ) → compared 7 x y ≡ 1
-compared-always x y = simp if-same
+unfolding compared
+compared-always x y = refl
 
 -- a branch that is taken where its test fails
 pub if-not : (b : Bool) (m n : ℕ) → (if not b then m else n) ≡ (if b then n else m)

@@ -1,2 +1,3 @@
--- What the contracts of the decoder name.
+-- What the contracts of the decoder, and of those that use it, name.
 pub mod Asked
+pub mod Registers

@@ -8,7 +8,7 @@ use native.Mathlib.Numerals.{add-one}
 use native.Mathlib.Omega.{arith}
 use lib.ListN.{length}
 use Rattle.model.specs.Pages.{pageOf}
-use Rattle.model.specs.State.{State}
+use Rattle.model.specs.State.{State, memory}
 use Rattle.model.specs.Attempt.{Tried, tried}
 use Rattle.model.specs.Handler.{load}
 use Rattle.model.specs.Run.{Step, goes, stops, Course, ended, more, follow, run, Counted, try, put, served, attempts, instruction}
@@ -27,8 +27,9 @@ use Rattle.laws.proofs.Attempt.{missing}
 use Rattle.laws.proofs.Third.{Enough, enough, miss-good}
 use Rattle.laws.specs.Demand2.{Right}
 use Rattle.laws.proofs.Size.{load-size}
+use Rattle.laws.proofs.Seats.{frame-most, frame-used}
 use Rattle.laws.proofs.Instruction.{attempts-right}
-use Rattle.paging.specs.Ready.{Ready, memory, Loaded, afterLoad}
+use Rattle.paging.specs.Ready.{Ready, Stepped, afterLoad}
 use Rattle.engine.specs.Engine.{counted, Spot, spot, tryAt, Walk, start, step, Walked}
 use Rattle.engine.specs.declared.Leg.{Leg}
 
@@ -241,8 +242,8 @@ module _ (limit : ℕ) (c₀ : Counted) (s : Shape) (b : FrameBook) (swap : List
       leg-ready = record {
         fit = leg-on .good .fit;
         whole = leg-on .good .whole;
-        hand-most = leg-on .good .seated .hand-most;
-        leaves = λ full. leg-on .good .seated .in-table (b .hand) (omega (arith, full, leg-on .good .seated .hand-most));
+        taken = frame-most _ _ (leg-on .good .hand);
+        leaves = λ full. leg-on .good .seated .in-table _ (frame-used _ _ (leg-on .good .hand) full);
         comes = rw is-page (in-table limit c₀ here (limit - r .left) leg-on (short _ e gone) (r .outcome) (last _ e gone .1) va e);
       }
 
@@ -250,9 +251,9 @@ module _ (limit : ℕ) (c₀ : Counted) (s : Shape) (b : FrameBook) (swap : List
           → Running limit c₀ (counted s b′ g (r .pcs) main′ swap′ (l + 1)) (limit - r .left)
       unfolding load
       leg-again b′ main′ swap′ q =
-          let k : Loaded = record { book = b′; memory = memory main′ swap′ } in
+          let k : Stepped = record { book = b′; memory = memory main′ swap′ } in
           let q′ : k ≡ afterLoad s b (memory m swap) (pageOf va) = q ∙ ap (λ x. afterLoad s b (memory m swap) x) is-page in
           let n : counted s b′ g (r .pcs) main′ swap′ (l + 1) ≡ served here (pageOf va) =
           ap (λ n. counted s b′ g (r .pcs) main′ swap′ n) (add-one l)
-          ∙ ap (λ (z : Loaded). counted s (z .book) g (r .pcs) (z .memory .main) (z .memory .swap) (suc l)) q′ in
+          ∙ ap (λ (z : Stepped). counted s (z .book) g (r .pcs) (z .memory .main) (z .memory .swap) (suc l)) q′ in
           rw n (loaded-on limit c₀ here (limit - r .left) leg-on (short _ e gone) (r .outcome) (last _ e gone .1) va e)

@@ -67,7 +67,7 @@ fn walk(g: &mut [u32; 32], p: Pcs, s: Shape, main: &mut [u8], c: CodePage, n: u3
             Outcome::Done(q) => {
                 pcs = q;
                 left = left - 1;
-                if !code::on(c, q.dpc) {
+                if !code::covers(c, q.dpc) {
                     return pause(o, left, pcs);
                 }
             }
@@ -108,7 +108,7 @@ pub fn go(
             Outcome::Done(_) => {}
             Outcome::Missing(va) => {
                 if loads / 2 > limit - left {
-                    return finish(Stop::Memory(va), limit - left, loads, book, pcs);
+                    return finish(Stop::IllegalMemory(va), limit - left, loads, book, pcs);
                 }
                 book = handler::load(s, book, main, swap, pages::page_of(va));
                 loads = loads + 1;

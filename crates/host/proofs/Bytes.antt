@@ -23,10 +23,10 @@ use Rattle.laws.proofs.Bytes.{number-same}
 use Rattle.laws.proofs.Attempt.{clash}
 use Rattle.laws.proofs.Table.{flat-here, flat-away}
 use Rattle.words.proofs.Copies.{Copied, copied-next}
-use Rattle.paging.specs.Ready.{memory}
+use Rattle.model.specs.State.{memory}
 use Rattle.host.specs.declared.home.Home.{Home}
 use Rattle.host.specs.declared.home.Home.the-variants.{Main, Swap}
-use Rattle.host.specs.Home.{homeOf, Lent}
+use Rattle.host.specs.Home.{homeOf, Reachable}
 
 -- ---- where a page is
 module _ (s : Shape) (main : List ℕ) (x : VirtualPage) (e : ℕ) (he : e ≡ entry s main x) where
@@ -65,7 +65,7 @@ module _ (s : Shape) (main : List ℕ) (x : VirtualPage) (h : Home) (e : h ≡ h
       pick true v = let z : h ≡ Main (ppx (entry s main x)) = simp v at e in clash (cc)
 
 -- ---- one byte, by where its page is
-module _ (s : Shape) (main swap : List ℕ) (lent : Lent s main (length swap)) (va : ℕ) (x : VirtualPage) (hx : x ≡ pageOf va)
+module _ (s : Shape) (main swap : List ℕ) (reach : Reachable s main (length swap)) (va : ℕ) (x : VirtualPage) (hx : x ≡ pageOf va)
     (inside : pageOf va .0 < s .ptl) (h : Home) (e : h ≡ homeOf s main x) where
   module _ (p : MainPage) (hp : h ≡ Main p) (i : ℕ) (hi : i ≡ mainAt p (offset va)) where
     here : InMain s main (pageOf va) p
@@ -76,7 +76,7 @@ module _ (s : Shape) (main swap : List ℕ) (lent : Lent s main (length swap)) (
 
     pub main-in : i < length main
     main-in =
-        omega (arith, there, lent .safe .framed (pageOf va) inside (here .here) .1, lent .safe .fit .frames-in, lent .safe .fit .main-long)
+        omega (arith, there, reach .safe .framed (pageOf va) inside (here .here) .1, reach .safe .fit .frames-in, reach .safe .fit .main-long)
 
     pub main-byte : getD main i 0 ≡ flatByte s (memory main swap) va
     main-byte = ap (λ (k : ℕ). getD main k 0) there ∙ sym (flat-here s (memory main swap) va (here .here))
@@ -93,7 +93,7 @@ module _ (s : Shape) (main swap : List ℕ) (lent : Lent s main (length swap)) (
     beyond = hi ∙ ap (λ (q : SwapPage). swapAt q (offset va)) (away .at)
 
     pub swap-in : i < length swap
-    swap-in = omega (arith, beyond, lent .whole)
+    swap-in = omega (arith, beyond, reach .whole)
 
     pub swap-byte : getD swap i 0 ≡ flatByte s (memory main swap) va
     swap-byte = ap (λ (k : ℕ). getD swap k 0) beyond ∙ sym (flat-away s (memory main swap) va (away .away))
@@ -106,23 +106,23 @@ module _ (s : Shape) (main swap : List ℕ) (lent : Lent s main (length swap)) (
 pub record Poked (s : Shape) (main swap main′ swap′ : List ℕ) : Type 0 where
   pub main-long : length main′ ≡ length main
   pub swap-long : length swap′ ≡ length swap
-  pub lent : Lent s main′ (length swap′)
+  pub reach : Reachable s main′ (length swap′)
 
-module _ (s : Shape) (main swap : List ℕ) (lent : Lent s main (length swap)) where
+module _ (s : Shape) (main swap : List ℕ) (reach : Reachable s main (length swap)) where
   -- a byte of the frames
   entry-set : (i v : ℕ) → 4096 * s .abase ≤ i → (x : VirtualPage) → x .0 < s .ptl → entry s (set main i v) x ≡ entry s main x
   unfolding entry
   entry-set i v a x q =
       number-same 4 (set main i v) main (entryAt s x) (entryAt s x)
-      (λ k r. getD-set-other main i (entryAt s x + k) v 0 (λ e. omega (arith, e, lent .safe .fit .table-in)))
+      (λ k r. getD-set-other main i (entryAt s x + k) v 0 (λ e. omega (arith, e, reach .safe .fit .table-in)))
 
-  lent-set : (i v : ℕ) → 4096 * s .abase ≤ i → Lent s (set main i v) (length swap)
-  lent-set i v a = record {
+  reach-set : (i v : ℕ) → 4096 * s .abase ≤ i → Reachable s (set main i v) (length swap)
+  reach-set i v a = record {
     safe = record {
-      fit = rw (length-set main i v) (lent .safe .fit);
-      framed = λ x q h. rw (entry-set i v a x q) (lent .safe .framed x q (rw (entry-set i v a x q) at h));
+      fit = rw (length-set main i v) (reach .safe .fit);
+      framed = λ x q h. rw (entry-set i v a x q) (reach .safe .framed x q (rw (entry-set i v a x q) at h));
     };
-    whole = lent .whole;
+    whole = reach .whole;
   }
 
   pub poked : (va v : ℕ) → pageOf va .0 < s .ptl → (main′ swap′ : List ℕ) → memory main′ swap′ ≡ poke s (memory main swap) va v → Poked s main swap main′ swap′
@@ -136,12 +136,12 @@ module _ (s : Shape) (main swap : List ℕ) (lent : Lent s main (length swap)) w
       pick true h =
           let z : memory main′ swap′ ≡ memory (set main at v) swap = simp h at e in
           rw (ap (λ (m : Memory). m .main) z, ap (λ (m : Memory). m .swap) z)
-          (record { main-long = length-set main at v; swap-long = refl; lent = lent-set at v (omega (arith, lent .safe .framed (pageOf va) inside h .0)) })
+          (record { main-long = length-set main at v; swap-long = refl; reach = reach-set at v (omega (arith, reach .safe .framed (pageOf va) inside h .0)) })
       pick false h =
           let k : ℕ = swapAt (swapOf s (pageOf va)) (offset va) in
           let z : memory main′ swap′ ≡ memory main (set swap k v) = simp h at e in
           rw (ap (λ (m : Memory). m .main) z, ap (λ (m : Memory). m .swap) z)
-          (record { main-long = refl; swap-long = length-set swap k v; lent = rw (length-set swap k v) lent })
+          (record { main-long = refl; swap-long = length-set swap k v; reach = rw (length-set swap k v) reach })
 
 -- ---- a transfer under way
 module _ (s : Shape) (m : Memory) (va : ℕ) where
@@ -161,24 +161,24 @@ pub record Writing (s : Shape) (main₀ swap₀ : List ℕ) (va : ℕ) (bytes ma
   pub most : i ≤ length bytes
   pub main-long : length main ≡ length main₀
   pub swap-long : length swap ≡ length swap₀
-  pub lent : Lent s main (length swap)
+  pub reach : Reachable s main (length swap)
   pub left : bytesTo s (memory main swap) (va + i) (drop i bytes) ≡ bytesTo s (memory main₀ swap₀) va bytes
 
 module _ (s : Shape) (main₀ swap₀ : List ℕ) (va : ℕ) (bytes : List ℕ) where
-  pub writing-start : Lent s main₀ (length swap₀) → Writing s main₀ swap₀ va bytes main₀ swap₀ 0
-  writing-start l = record { most = omega arith; main-long = refl; swap-long = refl; lent = l; left = rw add-zero }
+  pub writing-start : Reachable s main₀ (length swap₀) → Writing s main₀ swap₀ va bytes main₀ swap₀ 0
+  writing-start l = record { most = omega arith; main-long = refl; swap-long = refl; reach = l; left = rw add-zero }
 
   module _ (main swap : List ℕ) (i : ℕ) (w : Writing s main₀ swap₀ va bytes main swap i) where
     pub writing-next : i < length bytes → pageOf (va + i) .0 < s .ptl → (main′ swap′ : List ℕ)
         → memory main′ swap′ ≡ poke s (memory main swap) (va + i) (getD bytes i 0) → Writing s main₀ swap₀ va bytes main′ swap′ (i + 1)
     unfolding bytesTo
     writing-next h inside main′ swap′ e =
-        let k : Poked s main swap main′ swap′ = poked s main swap (w .lent) (va + i) (getD bytes i 0) inside main′ swap′ e in
+        let k : Poked s main swap main′ swap′ = poked s main swap (w .reach) (va + i) (getD bytes i 0) inside main′ swap′ e in
         record {
           most = omega arith;
           main-long = k .main-long ∙ w .main-long;
           swap-long = k .swap-long ∙ w .swap-long;
-          lent = k .lent;
+          reach = k .reach;
           left = rw (e, add-one, add-suc) (rw (drop-cons bytes i 0) at (w .left));
         }
 

@@ -2,3 +2,5 @@
 pub mod Bytes
 pub mod Rights
 pub mod Parts
+pub mod Verdicts
+pub mod Leans

@@ -1,42 +1,24 @@
--- Refusals 4 and 3 of a transfer, and the part of a memory where a page is.
+-- The part of a memory where a page is.
 use mathlib.Core.Path.{_≡_, ap, _∙_}
-use mathlib.Core.Bool.{Bool, true, false, not}
 use mathlib.Core.List.{List}
 use Prim.Native.Nat.{ℕ, _+_, _-_, _*_, _≤_, _<_}
 use native.Mathlib.Omega.{arith}
 use lib.ListN.{length, take, drop}
-use borrow.Author.Tests.{le-leb, lt-leb, not-true, not-false}
 use Rattle.model.specs.Bytes.{page}
 use Rattle.model.specs.Pages.{mainAt, swapAt, offset}
-use Rattle.model.specs.Calls.{permitted, pageBytes}
+use Rattle.model.specs.Calls.{pageBytes}
 use Rattle.model.specs.declared.Shape.{Shape}
 use Rattle.model.specs.declared.VirtualPage.{VirtualPage}
 use Rattle.model.specs.declared.MainPage.{MainPage}
 use Rattle.model.specs.declared.SwapPage.{SwapPage}
-use Rattle.model.specs.declared.Refusal.the-variants.{Rights, TooMuch}
-use Rattle.model.specs.declared.Verdict.the-variants.{Granted, Refused}
-use Rattle.paging.specs.Ready.{memory}
+use Rattle.model.specs.State.{memory}
 use Rattle.words.proofs.Copies.{part-page}
 use Rattle.host.specs.declared.home.Home.{Home}
 use Rattle.host.specs.declared.home.Home.the-variants.{Main, Swap}
-use Rattle.host.specs.Home.{homeOf, Lent}
-use Rattle.host.specs.Promises.{transferVerdict}
+use Rattle.host.specs.Home.{homeOf, Reachable}
 use Rattle.host.proofs.Bytes.{InMain, InSwap, in-main, in-swap}
 
--- ---- refusals 4 and 3
-module _ (writing : Bool) (s : Shape) (main : List ℕ) (va n : ℕ) where
-  pub too-much : 256 < n → Refused TooMuch ≡ transferVerdict writing s main va n
-  too-much h = simp (lt-leb _ _ h)
-
-  module _ (h : n ≤ 256) (r : Bool) (e : r ≡ permitted writing s main va n) where
-    pub rights-lack : not r ≡ true → Refused Rights ≡ transferVerdict writing s main va n
-    rights-lack k = simp (le-leb _ _ h, ← e, not-true r k)
-
-    pub all-right : not r ≡ false → Granted ≡ transferVerdict writing s main va n
-    all-right k = simp (le-leb _ _ h, ← e, not-false r k)
-
--- the part of the memory where the page is
-module _ (s : Shape) (main swap : List ℕ) (lent : Lent s main (length swap)) (x : VirtualPage) (inside : x .0 < s .ptl)
+module _ (s : Shape) (main swap : List ℕ) (reach : Reachable s main (length swap)) (x : VirtualPage) (inside : x .0 < s .ptl)
     (h : Home) (e : h ≡ homeOf s main x) where
   module _ (p : MainPage) (hp : h ≡ Main p) (i : ℕ) (hi : i ≡ mainAt p (offset 0)) where
     here : InMain s main x p
@@ -44,7 +26,7 @@ module _ (s : Shape) (main swap : List ℕ) (lent : Lent s main (length swap)) (
 
     pub main-within : i + 4096 ≤ length main
     main-within =
-        omega (arith, ap (λ (q : MainPage). q .0) (here .at), lent .safe .framed x inside (here .here) .1, lent .safe .fit .frames-in, lent .safe .fit .main-long)
+        omega (arith, ap (λ (q : MainPage). q .0) (here .at), reach .safe .framed x inside (here .here) .1, reach .safe .fit .frames-in, reach .safe .fit .main-long)
 
     pub main-part : take (i + 4096 - i) (drop i main) ≡ pageBytes s (memory main swap) x
     unfolding pageBytes
@@ -57,7 +39,7 @@ module _ (s : Shape) (main swap : List ℕ) (lent : Lent s main (length swap)) (
     away = in-swap s main x h e p hp
 
     pub swap-within : i + 4096 ≤ length swap
-    swap-within = omega (arith, ap (λ (q : SwapPage). q .0) (away .at), lent .whole)
+    swap-within = omega (arith, ap (λ (q : SwapPage). q .0) (away .at), reach .whole)
 
     pub swap-part : take (i + 4096 - i) (drop i swap) ≡ pageBytes s (memory main swap) x
     unfolding pageBytes

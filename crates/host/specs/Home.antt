@@ -14,6 +14,6 @@ unfoldable pub homeOf : Shape → List ℕ → VirtualPage → Home
 homeOf s main x = if valid (entry s main x) then Main (ppx (entry s main x)) else Swap (swapOf s x)
 
 -- both memories hold what the table names
-pub record Lent (s : Shape) (main : List ℕ) (swapLength : ℕ) : Type 0 where
+pub record Reachable (s : Shape) (main : List ℕ) (swapLength : ℕ) : Type 0 where
   pub safe : Safe s main
   pub whole : SwapLong s swapLength

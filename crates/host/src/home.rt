@@ -12,8 +12,8 @@ ghost use Rattle.model.specs.Pages.{pageOf};
 ghost use Rattle.model.specs.Translate.{flatByte};
 ghost use Rattle.model.specs.Calls as calls;
 ghost use Rattle.laws.specs.Good.{Fit};
-ghost use Rattle.paging.specs.Ready.{memory};
-ghost use Rattle.host.specs.Home.{homeOf, Lent};
+ghost use Rattle.model.specs.State.{memory};
+ghost use Rattle.host.specs.Home.{homeOf, Reachable};
 
 pub enum Home {
     Main(MainPage),
@@ -33,7 +33,7 @@ pub fn home_of(s: Shape, main: &[u8], x: VirtualPage) -> Home
 
 // The byte of the flat memory at va.
 pub fn flat_byte(s: Shape, main: &[u8], swap: &[u8], va: u32) -> u8
-    requires { ⌜ Lent s (now main) (length (now swap)) × (pageOf va .0 < s .ptl) ⌝ }
+    requires { ⌜ Reachable s (now main) (length (now swap)) × (pageOf va .0 < s .ptl) ⌝ }
     ensures { λ r. ⌜ r ≡ flatByte s (memory (now (main .entry)) (now (swap .entry))) va ⌝ }
 {
     match home_of(s, main, pages::page_of(va)) {
@@ -44,7 +44,7 @@ pub fn flat_byte(s: Shape, main: &[u8], swap: &[u8], va: u32) -> u8
 
 // One byte, where the flat memory has va.
 pub fn poke(s: Shape, main: &mut [u8], swap: &mut [u8], va: u32, x: u8)
-    requires { ⌜ Lent s (now main) (length (now swap)) × (pageOf va .0 < s .ptl) ⌝ }
+    requires { ⌜ Reachable s (now main) (length (now swap)) × (pageOf va .0 < s .ptl) ⌝ }
     ensures { λ _. ⌜ memory (now (main .exit)) (now (swap .exit)) ≡ calls.poke s (memory (now (main .entry)) (now (swap .entry))) va x ⌝ }
 {
     match home_of(s, main, pages::page_of(va)) {

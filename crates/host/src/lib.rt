@@ -1,6 +1,7 @@
-// What a host's call does to a machine that is not refused: the rights that it needs, the bytes of the flat memory one by one, and a
-// page as a part of the memory where it is.
+// What a host's call on a machine is refused, and what it does where nothing is refused: the bytes of the flat memory one by one, and
+// a page as a part of the memory where it is.
 pub mod home;
-pub mod permission;
+mod permission;
 pub mod transfer;
+pub mod verdict;
 pub mod view;

@@ -1,19 +1,18 @@
 // The right to a page: byte by byte for a transfer, and once for a view.
 use model::Access;
-use model::Refusal;
 use model::Shape;
-use model::Verdict;
 use model::VirtualPage;
+use paging::pages;
 use paging::table;
 ghost use mathlib.Core.Path.{_≡_};
 ghost use Prim.Native.Nat.{_≤_};
 ghost use lib.ListN.{length};
+ghost use Rattle.model.specs.Translate as access;
 ghost use Rattle.model.specs.Calls as calls;
 ghost use Rattle.laws.specs.Good.{Fit};
-ghost use Rattle.host.specs.Promises as promises;
 
 fn legal(a: Access) -> bool
-    ensures { λ r. ⌜ r ≡ calls.legal a ⌝ }
+    ensures { λ r. ⌜ r ≡ access.legal a ⌝ }
 {
     match a {
         Access::Illegal => false,
@@ -23,7 +22,7 @@ fn legal(a: Access) -> bool
 }
 
 // "all pages need r, or w": a byte is tested only where the one before it is permitted, so that no address goes round.
-fn permitted(s: Shape, main: &[u8], writing: bool, va: u32, n: usize) -> bool
+pub(crate) fn permitted(s: Shape, main: &[u8], writing: bool, va: u32, n: usize) -> bool
     requires { ⌜ Fit s (length (now main)) × (n ≤ 256) ⌝ }
     ensures { λ r. ⌜ r ≡ calls.permitted writing s (now (main .entry)) va n ⌝ }
 {
@@ -37,27 +36,13 @@ fn permitted(s: Shape, main: &[u8], writing: bool, va: u32, n: usize) -> bool
     true
 }
 
-// Refusals 4 and 3 of a transfer of n bytes.
-pub fn transfer_verdict(s: Shape, main: &[u8], writing: bool, va: u32, n: usize) -> Verdict
-    requires { ⌜ Fit s (length (now main)) ⌝ }
-    ensures { λ r. ⌜ r ≡ promises.transferVerdict writing s (now (main .entry)) va n ⌝ }
-{
-    if n > 256 {
-        return Verdict::Refused(Refusal::TooMuch);
-    }
-    if !permitted(s, main, writing, va, n) {
-        return Verdict::Refused(Refusal::Rights);
-    }
-    Verdict::Granted
-}
-
-// "a readable page": refusal 3 of the page view.
-pub fn viewable(s: Shape, main: &[u8], page: VirtualPage) -> bool
+// "a readable page": in the table, and its entry grants reading.
+pub(crate) fn viewable(s: Shape, main: &[u8], page: VirtualPage) -> bool
     requires { ⌜ Fit s (length (now main)) ⌝ }
     ensures { λ r. ⌜ r ≡ calls.viewable s (now (main .entry)) page ⌝ }
 {
     if page.0 >= s.ptl {
         return false;
     }
-    legal(table::locate(s, main, 4096 * page.0, false))
+    legal(table::locate(s, main, pages::first_va(page), false))
 }

@@ -8,12 +8,12 @@ ghost use mathlib.Core.Path.{_≡_};
 ghost use Prim.Native.Nat.{_<_};
 ghost use lib.ListN.{length};
 ghost use Rattle.model.specs.Calls.{pageBytes};
-ghost use Rattle.paging.specs.Ready.{memory};
-ghost use Rattle.host.specs.Home.{Lent};
+ghost use Rattle.model.specs.State.{memory};
+ghost use Rattle.host.specs.Home.{Reachable};
 
 // "from main memory or from swap as its entry says"
 pub fn page_part<'a>(s: Shape, main: &'a [u8], swap: &'a [u8], page: VirtualPage) -> &'a [u8]
-    requires { ⌜ Lent s (now main) (length (now swap)) × (page .0 < s .ptl) ⌝ }
+    requires { ⌜ Reachable s (now main) (length (now swap)) × (page .0 < s .ptl) ⌝ }
     ensures { λ r. ⌜ now r ≡ pageBytes s (memory (now (main .entry)) (now (swap .entry))) page ⌝ }
 {
     match home::home_of(s, main, page) {

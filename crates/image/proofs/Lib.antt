@@ -2,5 +2,5 @@
 pub mod Parts
 pub mod Tests
 pub mod Accepted
-pub mod Filled
-pub mod Loads
+pub mod ByHand
+pub mod Section

@@ -1,5 +1,5 @@
--- What the contracts of the reader and the loader name.
+-- What the reader's contracts name.
 pub mod Trailer
 pub mod Sections
 pub mod Format
-pub mod Fresh
+pub mod Hand

@@ -7,12 +7,13 @@ use native.Mathlib.Omega.{arith}
 use native.Mathlib.Numerals.{one-add}
 use native.Mathlib.Nat.{not-suc-le-zero}
 use Rattle.model.specs.Answers.{stopNumber}
+use Rattle.model.specs.Attempt.{tried}
 use Rattle.model.specs.Run.{goes, stops, Course, answered, ended, more, follow, run}
 use Rattle.model.specs.Flat.{Flat, flatTry, flatPut, flatInstruction}
 use Rattle.model.specs.declared.Outcome.{Outcome}
 use Rattle.model.specs.declared.Outcome.the-variants.{Done, Trapped, Missing, Stopped}
 use Rattle.model.specs.declared.Stop.{Stop}
-use Rattle.model.specs.declared.Stop.the-variants.{Limit, Trap, Memory}
+use Rattle.model.specs.declared.Stop.the-variants.{Limit, Trap, IllegalMemory}
 use Rattle.laws.proofs.Choice.{clash}
 use Rattle.laws.proofs.Simulate.{run-all}
 
@@ -21,7 +22,8 @@ flat-halts : (f : Flat) (s : Stop) (k : ℕ) (left : Flat) → flatInstruction f
 unfolding flatInstruction
 flat-halts f s k left e h = by (flatTry f .outcome) (flatTry f .gpr) (flatTry f .bytes) e
   where
-    by : (o : Outcome) (gpr bytes : List ℕ) → answered f (flatPut f) (λ va. stops (Memory va) 0 f) gpr bytes o ≡ stops s k left → (k ≡ 0) × (left ≡ f)
+    by : (o : Outcome) (gpr bytes : List ℕ) → answered f (flatPut f) (λ va. stops (IllegalMemory va) 0 f) (tried o gpr bytes) ≡ stops s k left
+        → (k ≡ 0) × (left ≡ f)
     by (Done pcs) gpr bytes q = clash (cc)
     by (Trapped pcs n) gpr bytes q = let z : s ≡ Trap n = cc in absurd (omega (arith, h, ap stopNumber z))
     by (Missing va) gpr bytes q = (cc, cc)

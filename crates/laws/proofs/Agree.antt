@@ -1,5 +1,5 @@
 -- One attempt on two memories, where each access that the first grants or misses the second grants at the address itself: unless
--- the first misses a page, the two come to the same (`attempt-both`). `Both` lists every way an attempt can go, with its cause.
+-- the first misses a page, the two come to the same (`attempt-both`). `Both` lists every way an attempt can accessed, with its cause.
 use mathlib.Core.Path.{_≡_, refl}
 use mathlib.Core.Bool.{Bool, true, false}
 use mathlib.Core.List.{List}
@@ -8,14 +8,14 @@ use Rattle.model.specs.Choice.{if_then_else_}
 use Rattle.model.specs.Words.{aligned}
 use Rattle.model.specs.Bytes.{number, store}
 use Rattle.model.specs.Instruction.{plan, written}
-use Rattle.model.specs.Attempt.{Tried, tried, Width, byte, half, word, size, stopped, to, on, go, transfer, loading, storing, obey, attempt}
+use Rattle.model.specs.Attempt.{Tried, tried, Width, byte, half, word, size, stopped, pcsTo, pcsOnward, accessed, transfer, obeyLoad, obeyStore, obey, attempt}
 use Rattle.model.specs.declared.Pcs.{Pcs}
 use Rattle.model.specs.declared.Access.{Access}
 use Rattle.model.specs.declared.Access.the-variants.{Illegal, Fault, At}
 use Rattle.model.specs.declared.Plan.{Plan}
 use Rattle.model.specs.declared.Plan.the-variants.{Unknown, Set, LoadByte, LoadHalf, LoadWord, StoreByte, StoreHalf, StoreWord, Trapping}
 use Rattle.model.specs.declared.Stop.{Stop}
-use Rattle.model.specs.declared.Stop.the-variants.{Memory, Misaligned, Instruction}
+use Rattle.model.specs.declared.Stop.the-variants.{IllegalMemory, Misaligned, IllegalInstruction}
 use Rattle.model.specs.declared.Outcome.the-variants.{Done, Trapped, Missing, Stopped}
 
 -- the second memory has each address at the address itself, and never faults
@@ -28,9 +28,9 @@ pub record Agrees (access : Bool → ℕ → Access) (bytes : List ℕ) (access�
 
 -- stops 2 to 4: those of an attempt
 pub data Halts : Stop → Type 0 where
-  at-memory : {va : ℕ} → Halts (Memory va)
+  at-memory : {va : ℕ} → Halts (IllegalMemory va)
   at-alignment : {va : ℕ} → Halts (Misaligned va)
-  at-word : {w : ℕ} → Halts (Instruction w)
+  at-word : {w : ℕ} → Halts (IllegalInstruction w)
 
 -- the address of the load or store that a plan asks for
 abbrev pub address : Plan → ℕ
@@ -51,20 +51,20 @@ module _ (access : Bool → ℕ → Access) (bytes : List ℕ) (access′ : Bool
     misses-code : {t : Tried} → access false (pcs .dpc) ≡ Fault → Both (tried (Missing (pcs .dpc)) gpr bytes) t
     misses-data : {va : ℕ} {p : Pcs} {r b : List ℕ} → (writing : Bool) → access writing va ≡ Fault
         → va ≡ address (plan gpr (pcs .next) (number 4 bytes′ (pcs .dpc))) → Both (tried (Missing va) gpr bytes) (tried (Done p) r b)
-    sets : (rd v target : ℕ) → Both (tried (Done (to access gpr bytes pcs target)) (written gpr rd v) bytes)
-        (tried (Done (to access gpr bytes pcs target)) (written gpr rd v) bytes′)
+    sets : (rd v target : ℕ) → Both (tried (Done (pcsTo access gpr bytes pcs target)) (written gpr rd v) bytes)
+        (tried (Done (pcsTo access gpr bytes pcs target)) (written gpr rd v) bytes′)
     stores : (width : Width) (va i v : ℕ) → aligned (size width) va ≡ true → access true va ≡ At i
-        → Both (tried (Done (on access gpr bytes pcs)) gpr (store (size width) bytes i v)) (tried (Done (on access gpr bytes pcs)) gpr (store (size width) bytes′ va v))
-    traps : (n : ℕ) → Both (tried (Trapped (on access gpr bytes pcs) n) gpr bytes) (tried (Trapped (on access gpr bytes pcs) n) gpr bytes′)
+        → Both (tried (Done (pcsOnward access gpr bytes pcs)) gpr (store (size width) bytes i v)) (tried (Done (pcsOnward access gpr bytes pcs)) gpr (store (size width) bytes′ va v))
+    traps : (n : ℕ) → Both (tried (Trapped (pcsOnward access gpr bytes pcs) n) gpr bytes) (tried (Trapped (pcsOnward access gpr bytes pcs) n) gpr bytes′)
 
   module _ (h : Agrees access bytes access′ bytes′) where
-    go-both : (writing : Bool) (va : ℕ) (a : Access) → access writing va ≡ a → (k k′ : ℕ → Tried)
+    access-both : (writing : Bool) (va : ℕ) (a : Access) → access writing va ≡ a → (k k′ : ℕ → Tried)
         → (access writing va ≡ Fault → Both (tried (Missing va) gpr bytes) (k′ va))
         → ((i : ℕ) → access writing va ≡ At i → Both (k i) (k′ va))
-        → Both (go access gpr bytes pcs a va k) (go access′ gpr bytes′ pcs (access′ writing va) va k′)
-    go-both writing va Illegal e k k′ f g = rw (h .illegal writing va e) (halts at-memory)
-    go-both writing va Fault e k k′ f g = rw (h .permits writing va e) (f e)
-    go-both writing va (At i) e k k′ f g = rw (h .legal writing va i e) (g i e)
+        → Both (accessed access gpr bytes pcs a va k) (accessed access′ gpr bytes′ pcs (access′ writing va) va k′)
+    access-both writing va Illegal e k k′ f g = rw (h .illegal writing va e) (halts at-memory)
+    access-both writing va Fault e k k′ f g = rw (h .permits writing va e) (f e)
+    access-both writing va (At i) e k k′ f g = rw (h .legal writing va i e) (g i e)
 
     transfer-both : (writing : Bool) (width : Width) (va : ℕ) (k k′ : ℕ → Tried)
         → (access writing va ≡ Fault → Both (tried (Missing va) gpr bytes) (k′ va))
@@ -74,51 +74,38 @@ module _ (access : Bool → ℕ → Access) (bytes : List ℕ) (access′ : Bool
     transfer-both writing width va k k′ f g = pick (aligned (size width) va) refl
       where
         pick : (c : Bool) → aligned (size width) va ≡ c
-            → Both (if c then go access gpr bytes pcs (access writing va) va k else stopped access gpr bytes pcs (Misaligned va))
-            (if c then go access′ gpr bytes′ pcs (access′ writing va) va k′ else stopped access′ gpr bytes′ pcs (Misaligned va))
-        pick true e = go-both writing va (access writing va) refl k k′ f (λ i q. g i e q)
+            → Both (if c then accessed access gpr bytes pcs (access writing va) va k else stopped access gpr bytes pcs (Misaligned va))
+            (if c then accessed access′ gpr bytes′ pcs (access′ writing va) va k′ else stopped access′ gpr bytes′ pcs (Misaligned va))
+        pick true e = access-both writing va (access writing va) refl k k′ f (λ i q. g i e q)
         pick false e = halts at-alignment
 
     -- the address asked for, as the second memory has it
     abbrev Asked : ℕ → Type 0
     Asked va = va ≡ address (plan gpr (pcs .next) (number 4 bytes′ (pcs .dpc)))
 
-    loading-both : (width : Width) (signed : Bool) (rd va : ℕ) → Asked va
-        → Both (loading access gpr bytes pcs width signed rd va) (loading access′ gpr bytes′ pcs width signed rd va)
-    unfolding loading
-    loading-both width signed rd va q =
+    load-both : (width : Width) (signed : Bool) (rd va : ℕ) → Asked va
+        → Both (obeyLoad access gpr bytes pcs width signed rd va) (obeyLoad access′ gpr bytes′ pcs width signed rd va)
+    unfolding obeyLoad
+    load-both width signed rd va q =
         transfer-both false width va _ _ (λ e. misses-data false e q) (λ i a e. rw (h .reads false width va i a e) (sets rd _ _))
 
-    storing-both : (width : Width) (va v : ℕ) → Asked va → Both (storing access gpr bytes pcs width va v) (storing access′ gpr bytes′ pcs width va v)
-    unfolding storing
-    storing-both width va v q = transfer-both true width va _ _ (λ e. misses-data true e q) (λ i a e. stores width va i v a e)
+    store-both : (width : Width) (va v : ℕ) → Asked va → Both (obeyStore access gpr bytes pcs width va v) (obeyStore access′ gpr bytes′ pcs width va v)
+    unfolding obeyStore
+    store-both width va v q = transfer-both true width va _ _ (λ e. misses-data true e q) (λ i a e. stores width va i v a e)
 
     obey-both : (w : ℕ) (p : Plan) → Asked (address p) → Both (obey access gpr bytes pcs w p) (obey access′ gpr bytes′ pcs w p)
     unfolding obey
     obey-both w Unknown q = halts at-word
     obey-both w (Set rd v target) q = sets rd v target
-    obey-both w (LoadByte signed rd va) q = loading-both byte signed rd va q
-    obey-both w (LoadHalf signed rd va) q = loading-both half signed rd va q
-    obey-both w (LoadWord rd va) q = loading-both word false rd va q
-    obey-both w (StoreByte va v) q = storing-both byte va v q
-    obey-both w (StoreHalf va v) q = storing-both half va v q
-    obey-both w (StoreWord va v) q = storing-both word va v q
+    obey-both w (LoadByte signed rd va) q = load-both byte signed rd va q
+    obey-both w (LoadHalf signed rd va) q = load-both half signed rd va q
+    obey-both w (LoadWord rd va) q = load-both word false rd va q
+    obey-both w (StoreByte va v) q = store-both byte va v q
+    obey-both w (StoreHalf va v) q = store-both half va v q
+    obey-both w (StoreWord va v) q = store-both word va v q
     obey-both w (Trapping n) q = traps n
 
     pub attempt-both : Both (attempt access gpr bytes pcs) (attempt access′ gpr bytes′ pcs)
     unfolding attempt
-    attempt-both = pick (aligned 4 (pcs .dpc)) refl
-      where
-        k : ℕ → Tried
-        k i = obey access gpr bytes pcs (number 4 bytes i) (plan gpr (pcs .next) (number 4 bytes i))
-
-        k′ : ℕ → Tried
-        k′ i = obey access′ gpr bytes′ pcs (number 4 bytes′ i) (plan gpr (pcs .next) (number 4 bytes′ i))
-
-        pick : (c : Bool) → aligned 4 (pcs .dpc) ≡ c
-            → Both (if c then go access gpr bytes pcs (access false (pcs .dpc)) (pcs .dpc) k else stopped access gpr bytes pcs (Misaligned (pcs .dpc)))
-            (if c then go access′ gpr bytes′ pcs (access′ false (pcs .dpc)) (pcs .dpc) k′ else stopped access′ gpr bytes′ pcs (Misaligned (pcs .dpc)))
-        pick true a =
-            go-both false (pcs .dpc) (access false (pcs .dpc)) refl k k′ (λ e. misses-code e)
-            (λ i e. rw (h .reads false word (pcs .dpc) i a e) (obey-both _ _ refl))
-        pick false a = halts at-alignment
+    attempt-both =
+        transfer-both false word (pcs .dpc) _ _ (λ e. misses-code e) (λ i a e. rw (h .reads false word (pcs .dpc) i a e) (obey-both _ _ refl))

@@ -90,24 +90,21 @@ zero-kept gpr i v z = pick (eqb i 0) refl
 pub seated-over : (s : Shape) (b : FrameBook) (main main′ : List ℕ) → ((x : VirtualPage) → x .0 < s .ptl → entry s main′ x ≡ entry s main x)
     → Seated s b main → Seated s b main′
 seated-over s b main main′ e g = record {
-  array = g .array;
-  used-most = g .used-most;
+  booked = g .booked;
   in-table = g .in-table;
   differ = g .differ;
   rest = g .rest;
   here = λ i q. ap valid (e (pageIn b i) (g .in-table i q)) ∙ g .here i q;
   frame-of = λ i q. ap (λ (k : ℕ). ppx k .0) (e (pageIn b i) (g .in-table i q)) ∙ g .frame-of i q;
   only = λ x q v. g .only x q (ap valid (sym (e x q)) ∙ v);
-  hand-still = g .hand-still;
-  hand-most = g .hand-most;
 }
 
 module _ (p : State) (g : Good p) (pcs : Pcs) where
   pub set-good : (i v : ℕ) → Good (carried p pcs (written (p .machine .gpr) i v) (p .memory .main))
-  set-good i v = record { fit = g .fit; whole = g .whole; seated = g .seated; zero = zero-kept (p .machine .gpr) i v (g .zero) }
+  set-good i v = record { fit = g .fit; whole = g .whole; seated = g .seated; hand = g .hand; zero = zero-kept (p .machine .gpr) i v (g .zero) }
 
   pub trap-good : Good (carried p pcs (p .machine .gpr) (p .memory .main))
-  trap-good = record { fit = g .fit; whole = g .whole; seated = g .seated; zero = g .zero }
+  trap-good = record { fit = g .fit; whole = g .whole; seated = g .seated; hand = g .hand; zero = g .zero }
 
   pub store-good : (width : Width) (va i v : ℕ) → aligned (size width) va ≡ true → translate (p .machine .shape) (p .memory .main) true va ≡ At i
       → Good (carried p pcs (p .machine .gpr) (store (size width) (p .memory .main) i v))
@@ -116,6 +113,7 @@ module _ (p : State) (g : Good p) (pcs : Pcs) where
     whole = g .whole;
     seated = seated-over (p .machine .shape) (p .machine .book) (p .memory .main) (store (size width) (p .memory .main) i v)
         (entry-kept (p .machine .shape) (p .memory .main) (safe p g) width va i v a q) (g .seated);
+    hand = g .hand;
     zero = g .zero;
   }
 

@@ -102,7 +102,7 @@ module _ (l : List ℕ) (p : ℕ) (b : List ℕ) (h : 4096 * p + 4096 ≤ length
   front : length (take (4096 * p) l) ≡ 4096 * p
   front = length-take-le (4096 * p) l (omega arith)
 
-  pub page-withPage : page (withPage l p b) p ≡ b
+  page-withPage : page (withPage l p b) p ≡ b
   unfolding page withPage
   page-withPage = rw (drop-at _ _ (4096 * p) front) (take-at b _ 4096 e)
 

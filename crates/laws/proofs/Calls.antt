@@ -29,30 +29,30 @@ use Rattle.laws.proofs.Host.{Wrote, wrote, sets-put, read-flat, view-fl
 use Rattle.laws.proofs.Granted.{refused, host-inside, view-inside, reply-register}
 
 -- a reply is the same on every machine
-pub reply-call : (m : Machine) (i v : ℕ) → replyCall m i v .refused ≡ 0 → replyCall m i v .machine ≡ withRegister m i v
+pub reply-call : (m : Machine) (i v : ℕ) → replyCall m i v .verdict .refused ≡ 0 → replyCall m i v .machine ≡ withRegister m i v
 unfolding replyCall
 reply-call m i v = by (replyVerdict i)
   where
-    by : (w : Verdict) → replyBy w m i v .refused ≡ 0 → replyBy w m i v .machine ≡ withRegister m i v
+    by : (w : Verdict) → replyBy w m i v .verdict .refused ≡ 0 → replyBy w m i v .machine ≡ withRegister m i v
     by Granted e = refl
     by (Refused r) e = refused r e
 
 module _ (p : State) (g : Good p) where
-  pub read-call : (va : ℕ) (buffer : List ℕ) → readCall p va buffer .refused ≡ 0
+  pub read-call : (va : ℕ) (buffer : List ℕ) → readCall p va buffer .verdict .refused ≡ 0
       → readCall p va buffer .buffer ≡ take (length buffer) (drop va (flat p .bytes))
   unfolding readCall flat
   read-call va buffer = by (hostVerdict false p va (length buffer)) refl
     where
-      by : (v : Verdict) → hostVerdict false p va (length buffer) ≡ v → readBy v p va buffer .refused ≡ 0
+      by : (v : Verdict) → hostVerdict false p va (length buffer) ≡ v → readBy v p va buffer .verdict .refused ≡ 0
           → readBy v p va buffer .buffer ≡ take (length buffer) (drop va (flat p .bytes))
       by Granted q e = read-flat (p .machine .shape) (p .memory) va (length buffer) (host-inside false p va (length buffer) q)
       by (Refused r) q e = refused r e
 
-  pub view-call : (x : VirtualPage) → viewCall p x .refused ≡ 0 → viewCall p x .part ≡ page (flat p .bytes) (x .0)
+  pub view-call : (x : VirtualPage) → viewCall p x .verdict .refused ≡ 0 → viewCall p x .part ≡ page (flat p .bytes) (x .0)
   unfolding viewCall flat
   view-call x = by (viewVerdict p x) refl
     where
-      by : (v : Verdict) → viewVerdict p x ≡ v → viewBy v p x .refused ≡ 0 → viewBy v p x .part ≡ page (flat p .bytes) (x .0)
+      by : (v : Verdict) → viewVerdict p x ≡ v → viewBy v p x .verdict .refused ≡ 0 → viewBy v p x .part ≡ page (flat p .bytes) (x .0)
       by Granted q e = view-flat (p .machine .shape) (p .machine .book) (p .memory) (g .fit) (g .whole) (g .seated) x (view-inside p x q)
       by (Refused r) q e = refused r e
 
@@ -62,11 +62,11 @@ module _ (p : State) (g : Good p) where
     granted q =
         wrote (p .machine .shape) (p .machine .book) (p .memory) (g .fit) (g .whole) (g .seated) va bytes (host-inside true p va (length bytes) q)
 
-    pub write-call : writeCall p va bytes .refused ≡ 0 → flat (writeCall p va bytes .state) ≡ flatWrite (flat p) va bytes
+    pub write-call : writeCall p va bytes .verdict .refused ≡ 0 → flat (writeCall p va bytes .state) ≡ flatWrite (flat p) va bytes
     unfolding writeCall flat
     write-call = by (hostVerdict true p va (length bytes)) refl
       where
-        by : (v : Verdict) → hostVerdict true p va (length bytes) ≡ v → writeBy v p va bytes .refused ≡ 0
+        by : (v : Verdict) → hostVerdict true p va (length bytes) ≡ v → writeBy v p va bytes .verdict .refused ≡ 0
             → flat (writeBy v p va bytes .state) ≡ flatWrite (flat p) va bytes
         by Granted q e =
             ap₂ {C = Flat} (λ l rights. record { gpr = p .machine .gpr; pcs = p .machine .pcs; bytes = l; rights = rights })
@@ -101,6 +101,7 @@ module _ (p : State) (g : Good p) where
           fit = kept-fit (p .machine .shape) (p .memory) (bytesTo (p .machine .shape) (p .memory) va bytes) (g .fit) (granted q .kept);
           whole = granted q .kept .swap-long ∙ g .whole;
           seated = kept-seated (p .machine .shape) (p .memory) (bytesTo (p .machine .shape) (p .memory) va bytes) (g .fit) (granted q .kept) (p .machine .book) (g .seated);
+          hand = g .hand;
           zero = g .zero;
         }
         by (Refused r) q = g
@@ -123,6 +124,7 @@ module _ (p : State) (g : Good p) where
         fit = g .fit;
         whole = g .whole;
         seated = g .seated;
+        hand = g .hand;
         zero = getD-set-other (p .machine .gpr) i 0 v 0 (λ e. omega (arith, e, reply-register i q)) ∙ g .zero;
       }
       by (Refused r) q = g

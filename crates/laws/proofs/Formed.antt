@@ -9,7 +9,7 @@ use lib.Dec.{eqb, leb}
 use lib.ListN.{length}
 use borrow.Author.Tests.{leb-true, eqb-true, le-leb, eq-eqb}
 use Rattle.model.specs.State.{Memory}
-use Rattle.model.specs.Answers.{verdictNumber}
+use Rattle.model.specs.Answers.{verdictNumbers}
 use Rattle.model.specs.Calls.{unless}
 use Rattle.model.specs.Image.{ptlOf, framesOf, known, wellFormed, imageVerdict, imageBy, imageCall, room, loadVerdict, loadBy, loadCall}
 use Rattle.model.specs.declared.Refusal.the-variants.{Edition, Format, Room}
@@ -38,7 +38,7 @@ module _ (l : List ℕ) where
   unfolding known
   known-of e = record { long = leb-true _ _ (and-left _ _ e); edition = eqb-true _ _ (and-right (leb 24 (length l)) _ e) }
 
-  pub is-known : Known l → known l ≡ true
+  is-known : Known l → known l ≡ true
   unfolding known
   is-known k = and-both _ _ (le-leb _ _ (k .long)) (eq-eqb _ _ (k .edition))
 
@@ -97,11 +97,11 @@ module _ (l : List ℕ) where
   image-onward after k f = rw (is-known l k, well-formed-of l f)
 
   -- ---- the reader
-  pub read-facts : imageCall l .numbers .refused ≡ 0 → Known l × Formed l
+  pub read-facts : imageCall l .numbers .verdict .refused ≡ 0 → Known l × Formed l
   unfolding imageCall
   read-facts e = let t = image-facts Granted (granted _ (numbers (imageVerdict l Granted) e)) in (t .0, t .1)
     where
-      numbers : (v : Verdict) → imageBy v l .numbers .refused ≡ 0 → verdictNumber v ≡ 0
+      numbers : (v : Verdict) → imageBy v l .numbers .verdict .refused ≡ 0 → verdictNumbers v .refused ≡ 0
       numbers Granted q = refl
       numbers (Refused r) q = q
 
@@ -111,14 +111,14 @@ module _ (l : List ℕ) where
 
   -- ---- loading
   module _ (m : Memory) where
-    pub load-facts : loadCall l m .refused ≡ 0 → Accepted l m
+    pub load-facts : loadCall l m .verdict .refused ≡ 0 → Accepted l m
     unfolding loadCall loadVerdict
     load-facts e =
         let t = image-facts _ (granted _ (number (loadVerdict l m) e)) in
         let r = unless-granted (room (framesOf l) (ptlOf l) (length (m .main)) (length (m .swap))) Room Granted (t .2) in
         record { known = t .0; formed = t .1; roomy = roomy-of (framesOf l) (ptlOf l) (length (m .main)) (length (m .swap)) (r .0) }
       where
-        number : (v : Verdict) → loadBy v l m .refused ≡ 0 → verdictNumber v ≡ 0
+        number : (v : Verdict) → loadBy v l m .verdict .refused ≡ 0 → verdictNumbers v .refused ≡ 0
         number Granted q = refl
         number (Refused r) q = q
 

@@ -6,7 +6,7 @@ use Prim.Native.Nat.{ℕ, suc, _*_, _≤_}
 use borrow.Author.Tests.{le-ltb}
 use lib.ListN.{getD}
 use Rattle.model.specs.Pages.{pageOf, entryAt, swapOf}
-use Rattle.model.specs.Frames.{pageIn}
+use Rattle.model.specs.Frames.{pageIn, frame}
 use Rattle.model.specs.Handler.{load}
 use Rattle.model.specs.Run.{Step, goes, Counted, try, served, attempts, instruction, run}
 use Rattle.model.specs.declared.Shape.{Shape}
@@ -63,16 +63,16 @@ module _ (c : Counted) (g : Good (c .state)) (va : ℕ) (e : try (c .state) .out
   names = loadNames (c .state .machine .shape .frames) (c .state .machine .book) (pageOf va)
 
   victim : c .state .machine .shape .frames ≤ c .state .machine .book .used
-      → List·Memᴰ (pageIn (c .state .machine .book) (c .state .machine .book .hand)) names
+      → List·Memᴰ (pageIn (c .state .machine .book) (frame (c .state .machine .shape .frames) (c .state .machine .book))) names
   victim q = rw (le-ltb (c .state .machine .book .used) (c .state .machine .shape .frames) q) (List·Memᴰ·tail (List·Memᴰ·head refl))
 
   load-stays : Stays c names (served c (pageOf va))
   unfolding load
   load-stays (in-main j) h =
-      load-off (c .state .machine .shape) (c .state .machine .book) (c .state .memory) (g .fit) (g .whole) (g .seated) (pageOf va) (missing (c .state) va e .0) j
+      load-off (c .state .machine .shape) (c .state .machine .book) (c .state .memory) (g .fit) (g .whole) (g .seated) (g .hand) (pageOf va) (missing (c .state) va e .0) j
       (h .unframed) (h .clear (pageOf va) (List·Memᴰ·head refl)) (λ q. h .clear _ (victim q))
   load-stays (in-swap j) h =
-      load-swap-off (c .state .machine .shape) (c .state .machine .book) (c .state .memory) (g .fit) (g .whole) (g .seated) (pageOf va) (missing (c .state) va e .0) j
+      load-swap-off (c .state .machine .shape) (c .state .machine .book) (c .state .memory) (g .fit) (g .whole) (g .seated) (g .hand) (pageOf va) (missing (c .state) va e .0) j
       (λ q. h .clear _ (victim q))
 
   names-missed : (k : ℕ) → attemptsNames (suc k) (c .state) ≡ names ++ attemptsNames k (load (c .state) (pageOf va))

@@ -18,16 +18,16 @@ use Rattle.model.specs.Table.{entry, valid}
 use Rattle.model.specs.Translate.{flatByte}
 use Rattle.model.specs.Flat.{rightsByte, flatBytes, flatRights}
 use Rattle.model.specs.State.{Memory, State}
-use Rattle.model.specs.Image.{ptlOf, framesOf, rightsOf, pagesOf, meant, invalidEntries, fresh}
+use Rattle.model.specs.Image.{invalidEntry, ptlOf, framesOf, rightsOf, pagesOf, meant, invalidEntries, fresh}
 use Rattle.model.specs.declared.VirtualPage.{VirtualPage}
-use Rattle.laws.specs.Good.{Fit, Seated, Good}
-use Rattle.laws.specs.Formed.{Formed, Accepted, invalidEntry}
+use Rattle.laws.specs.Good.{Fit, Hand, Seated, Good}
+use Rattle.laws.specs.Formed.{Formed, Accepted}
 use Rattle.laws.proofs.Choice.{length-below, getD-below}
 use Rattle.laws.proofs.Bytes.{number-same}
 use Rattle.laws.proofs.Table.{flat-away}
 
 -- ---- an invalid entry by its rights byte: r and w are the byte's, v is 0
-pub valid-invalid : (b : ℕ) → valid (invalidEntry b) ≡ false
+valid-invalid : (b : ℕ) → valid (invalidEntry b) ≡ false
 valid-invalid b = let z : low 1 (invalidEntry b) ≡ 0 = omega arith in ap (λ (n : ℕ). eqb n 1) z
 
 rights-bits : (r w : ℕ) → r < 2 → w < 2 → rightsByte (4 * r + 2 * w) ≡ r + 2 * w
@@ -36,7 +36,7 @@ rights-bits r w h k =
     let b : field 1 1 (4 * r + 2 * w) ≡ w = omega arith in
     omega arith
 
-pub rights-invalid : (b : ℕ) → b ≤ 3 → rightsByte (invalidEntry b) ≡ b
+rights-invalid : (b : ℕ) → b ≤ 3 → rightsByte (invalidEntry b) ≡ b
 rights-invalid b h = rights-bits (low 1 b) (field 1 1 b) (omega arith) (omega arith) ∙ omega arith
 
 -- ---- the table
@@ -50,7 +50,7 @@ number-drop n l j i =
     number-same n (drop j l) l i (j + i) (λ k q. let e : j + (i + k) ≡ j + i + k = omega arith in getD-drop j l (i + k) 0 ∙ ap (λ (z : ℕ). getD l z 0) e)
 
 -- entry x, whatever comes behind the table
-pub number-entries : (r tail : List ℕ) (x : ℕ) → x < length r → number 4 (invalidEntries r ++ tail) (4 * x) ≡ invalidEntry (getD r x 0)
+number-entries : (r tail : List ℕ) (x : ℕ) → x < length r → number 4 (invalidEntries r ++ tail) (4 * x) ≡ invalidEntry (getD r x 0)
 unfolding invalidEntries number
 number-entries [] tail x h = absurd (not-suc-le-zero h)
 number-entries (b ∷ r) tail zero h = add-zero (invalidEntry b)
@@ -61,7 +61,7 @@ number-entries (b ∷ r) tail (suc x) h =
     ∙ number-entries r tail x (le-of-suc-le-suc h)
 
 -- ---- frames: "0, which means 2"
-pub meant-bounds : (n : ℕ) → (n ≡ 0) ⊎ ((2 ≤ n) × (n ≤ 32)) → (2 ≤ meant n) × (meant n ≤ 32)
+meant-bounds : (n : ℕ) → (n ≡ 0) ⊎ ((2 ≤ n) × (n ≤ 32)) → (2 ≤ meant n) × (meant n ≤ 32)
 meant-bounds n (inl e) = rw e (omega arith, omega arith)
 meant-bounds n (inr h) = rw (ne-eqb n 0 (λ e. omega (arith, h .0, e))) h
 
@@ -80,7 +80,7 @@ module _ (l : List ℕ) (m : Memory) (a : Accepted l m) where
   abbrev p : State
   p = fresh l (length (m .main))
 
-  pub fresh-entry : (x : VirtualPage) → x .0 < ptlOf l → entry (p .machine .shape) (p .memory .main) x ≡ invalidEntry (getD (rightsOf l) (x .0) 0)
+  fresh-entry : (x : VirtualPage) → x .0 < ptlOf l → entry (p .machine .shape) (p .memory .main) x ≡ invalidEntry (getD (rightsOf l) (x .0) 0)
   unfolding fresh entry
   fresh-entry x h =
       ap (number 4 (p .memory .main)) (zero-add (4 * x .0))
@@ -121,17 +121,18 @@ module _ (l : List ℕ) (m : Memory) (a : Accepted l m) where
   fresh-seated : Seated (p .machine .shape) (p .machine .book) (p .memory .main)
   unfolding fresh
   fresh-seated = record {
-    array = length-replicate 32 (virtual 0);
-    used-most = omega arith;
+    booked = record { array = length-replicate 32 (virtual 0); used-most = omega arith };
     in-table = λ i q. absurd (not-suc-le-zero q);
     differ = λ i j q. absurd (not-suc-le-zero q);
     rest = λ i q r. getD-replicate 32 i (virtual 0) (virtual 0) r;
     here = λ i q. absurd (not-suc-le-zero q);
     frame-of = λ i q. absurd (not-suc-le-zero q);
     only = λ x q v. absurd (true≢false (sym v ∙ fresh-invalid x q));
-    hand-still = λ q. refl;
-    hand-most = omega (arith, meant-bounds (framesOf l) (a .formed .frames-known) .0);
   }
+
+  fresh-hand : Hand (p .machine .shape .frames) (p .machine .book)
+  unfolding fresh
+  fresh-hand = record { still = λ q. refl; most = omega (arith, meant-bounds (framesOf l) (a .formed .frames-known) .0) }
 
   pub fresh-good : Good p
   unfolding fresh
@@ -139,6 +140,7 @@ module _ (l : List ℕ) (m : Memory) (a : Accepted l m) where
     fit = fresh-fit;
     whole = fresh-swap-long ∙ a .roomy .swap-long ∙ ap (λ (k : ℕ). 4096 * k) (sym (zero-add (ptlOf l)));
     seated = fresh-seated;
+    hand = fresh-hand;
     zero = refl;
   }
 

@@ -8,7 +8,7 @@ use lib.Dec.{leb}
 use borrow.Author.Tests.{ltb-true, leb-true, le-leb}
 use Rattle.model.specs.State.{State}
 use Rattle.model.specs.Sound.{fits, sound}
-use Rattle.model.specs.Answers.{refusalNumber, verdictNumber}
+use Rattle.model.specs.Answers.{refusalNumber, verdictNumbers}
 use Rattle.model.specs.Run.{uncounted, run, instruction}
 use Rattle.model.specs.Calls.{unless, machineVerdict, runVerdict, reported, runBy, runCall, permitted, hostVerdict, viewable, viewVerdict, replyVerdict}
 use Rattle.model.specs.declared.VirtualPage.{VirtualPage}
@@ -16,10 +16,10 @@ use Rattle.model.specs.declared.Refusal.{Refusal}
 use Rattle.model.specs.declared.Refusal.the-variants.{Bound, Unsound, Rights, TooMuch, Edition, Format, Room}
 use Rattle.model.specs.declared.Verdict.{Verdict}
 use Rattle.model.specs.declared.Verdict.the-variants.{Granted, Refused}
-use Rattle.laws.specs.Good.{Good}
+use Rattle.laws.specs.Good.{Good, InTable}
 use Rattle.laws.proofs.Choice.{clash, and-left}
 use Rattle.laws.proofs.Sound.{sound-of}
-use Rattle.laws.proofs.Host.{InTable, permitted-inside}
+use Rattle.laws.proofs.Host.{permitted-inside}
 
 -- no refusal has the number 0
 pub refused : {A : Type 0} (r : Refusal) → refusalNumber r ≡ 0 → A
@@ -31,7 +31,7 @@ refused Edition e = absurd (omega (arith, e))
 refused Format e = absurd (omega (arith, e))
 refused Room e = absurd (omega (arith, e))
 
-pub granted : (v : Verdict) → verdictNumber v ≡ 0 → v ≡ Granted
+pub granted : (v : Verdict) → verdictNumbers v .refused ≡ 0 → v ≡ Granted
 granted Granted e = refl
 granted (Refused r) e = refused r e
 
@@ -80,7 +80,7 @@ pub machine-onward : (p : State) → Good p → (after : Verdict) → machineVer
 unfolding machineVerdict
 machine-onward p g after = let t = sound-of p g in rw (t .0, t .1)
 
-pub run-granted : (p : State) → Good p → (n : ℕ) → n ≤ 1000000 → runVerdict p n ≡ Granted
+run-granted : (p : State) → Good p → (n : ℕ) → n ≤ 1000000 → runVerdict p n ≡ Granted
 unfolding runVerdict
 run-granted p g n h = machine-onward p g _ ∙ rw (le-leb n 1000000 h)
 

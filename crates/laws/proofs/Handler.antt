@@ -19,15 +19,15 @@ use Rattle.laws.specs.Good.{Fit, SwapLong, Seated}
 use Rattle.laws.proofs.Seated.{in-frames, apart}
 use Rattle.laws.proofs.Entries.{valid-out}
 use Rattle.laws.proofs.Moves.{page-discrete, out-main-long, out-swap-long, out-fit, out-whole, out-same, out-other, out-flat, into-main-long, into-swap-long, into-same, into-other, into-flat}
-use Rattle.laws.proofs.Seats.{frame-free, frame-full}
+use Rattle.laws.proofs.Seats.{frame-free}
 
 -- ---- the two cases: a frame is free, or none is
-pub loaded-free : (s : Shape) (b : FrameBook) (m : Memory) (y : VirtualPage) → b .used < s .frames → loaded s b m y ≡ into s m (b .used) y
+pub loaded-free : (s : Shape) (b : FrameBook) (m : Memory) (y : VirtualPage) → b .used < s .frames → loaded s b m y ≡ into s m (frame (s .frames) b) y
 unfolding loaded
 loaded-free s b m y q = rw (loaded, lt-ltb _ _ q)
 
 pub loaded-full : (s : Shape) (b : FrameBook) (m : Memory) (y : VirtualPage) → s .frames ≤ b .used
-    → loaded s b m y ≡ into s (out s m (b .hand) (pageIn b (b .hand))) (b .hand) y
+    → loaded s b m y ≡ into s (out s m (frame (s .frames) b) (pageIn b (frame (s .frames) b))) (frame (s .frames) b) y
 unfolding loaded
 loaded-full s b m y q = rw (loaded, le-ltb _ _ q)
 
@@ -36,8 +36,8 @@ pub record Loads (s : Shape) (b : FrameBook) (m : Memory) (y : VirtualPage) (m�
   pub main-long : length (m′ .main) ≡ length (m .main)
   pub swap-long : length (m′ .swap) ≡ length (m .swap)
   pub new : entry s (m′ .main) y ≡ broughtTo (frameAt s f) (entry s (m .main) y)
-  pub gone : s .frames ≤ b .used → entry s (m′ .main) (pageIn b (b .hand)) ≡ putOut (entry s (m .main) (pageIn b (b .hand)))
-  pub stays : (z : VirtualPage) → z .0 < s .ptl → (z ≡ y → ⊥) → (s .frames ≤ b .used → z ≡ pageIn b (b .hand) → ⊥)
+  pub gone : s .frames ≤ b .used → entry s (m′ .main) (pageIn b f) ≡ putOut (entry s (m .main) (pageIn b f))
+  pub stays : (z : VirtualPage) → z .0 < s .ptl → (z ≡ y → ⊥) → (s .frames ≤ b .used → z ≡ pageIn b f → ⊥)
       → entry s (m′ .main) z ≡ entry s (m .main) z
   pub bytes : (va : ℕ) → pageOf va .0 < s .ptl → flatByte s m′ va ≡ flatByte s m va
 
@@ -47,25 +47,27 @@ module _ (s : Shape) (b : FrameBook) (m : Memory) (h : Fit s (length (m .main)))
   pub strange : (i : ℕ) → i < b .used → y ≡ pageIn b i → ⊥
   strange i q e = true≢false (sym (g .here i q) ∙ ap (λ z. valid (entry s (m .main) z)) (sym e) ∙ hv)
 
-  loads-free : b .used < s .frames → Loads s b m y (into s m (b .used) y) (b .used)
-  loads-free q = record {
-    main-long = into-main-long s m h w (b .used) y q hy;
-    swap-long = into-swap-long s m h w (b .used) y q hy;
-    new = into-same s m h w (b .used) y q hy;
+  -- into a frame f that is not in use
+  loads-free : b .used < s .frames → (f : ℕ) → f < s .frames → b .used ≤ f → Loads s b m y (into s m f y) f
+  loads-free q f hf new = record {
+    main-long = into-main-long s m h w f y hf hy;
+    swap-long = into-swap-long s m h w f y hf hy;
+    new = into-same s m h w f y hf hy;
     gone = λ r. absurd (omega (arith, q, r));
-    stays = λ z hz n k. into-other s m h w (b .used) y q hy z hz n;
-    bytes = into-flat s m h w (b .used) y q hy hv (λ z hz v. (in-frames s b (m .main) g z hz v .0, λ e. vacant z hz v e));
+    stays = λ z hz n k. into-other s m h w f y hf hy z hz n;
+    bytes = into-flat s m h w f y hf hy hv (λ z hz v. (in-frames s b (m .main) g z hz v .0, λ e. vacant z hz v e));
   }
     where
-      vacant : (z : VirtualPage) → z .0 < s .ptl → valid (entry s (m .main) z) ≡ true → ppx (entry s (m .main) z) .0 ≡ s .abase + b .used → ⊥
+      vacant : (z : VirtualPage) → z .0 < s .ptl → valid (entry s (m .main) z) ≡ true → ppx (entry s (m .main) z) .0 ≡ s .abase + f → ⊥
       vacant z hz v e =
           let t : (i : ℕ) × (i < b .used) × (pageIn b i ≡ z) = g .only z hz v in
-          let c : s .abase + t .0 ≡ s .abase + b .used
+          let c : s .abase + t .0 ≡ s .abase + f
           = sym (ap (λ x. ppx (entry s (m .main) x) .0) (sym (t .2)) ∙ g .frame-of (t .0) (t .1)) ∙ e in
-          omega (arith, c, t .1)
+          omega (arith, c, t .1, new)
 
-  loads-full : s .frames ≤ b .used → Loads s b m y (into s (out s m (b .hand) (pageIn b (b .hand))) (b .hand) y) (b .hand)
-  loads-full q = record {
+  -- into a frame f in use, which its page leaves
+  loads-full : s .frames ≤ b .used → (f : ℕ) → f < s .frames → Loads s b m y (into s (out s m f (pageIn b f)) f y) f
+  loads-full q f hf = record {
     main-long = into-main-long s m₁ fit₁ whole₁ f y hf hy ∙ out-main-long s m h w f x hf hx;
     swap-long = into-swap-long s m₁ fit₁ whole₁ f y hf hy ∙ out-swap-long s m h w f x hf hx;
     new = into-same s m₁ fit₁ whole₁ f y hf hy ∙ ap (broughtTo (frameAt s f)) (other y (strange f inf));
@@ -76,17 +78,11 @@ module _ (s : Shape) (b : FrameBook) (m : Memory) (h : Fit s (length (m .main)))
         ∙ out-flat s m h w f x hf hx (g .here f inf) (g .frame-of f inf) (λ z hz v. in-frames s b (m .main) g z hz v .0) va hva;
   }
     where
-      f : ℕ
-      f = b .hand
-
       x : VirtualPage
       x = pageIn b f
 
-      hf : f < s .frames
-      hf = g .hand-most
-
       inf : f < b .used
-      inf = omega (arith, q, g .hand-most)
+      inf = omega (arith, q, hf)
 
       hx : x .0 < s .ptl
       hx = g .in-table f inf
@@ -120,11 +116,11 @@ module _ (s : Shape) (b : FrameBook) (m : Memory) (h : Fit s (length (m .main)))
                 λ d. e (apart s b (m .main) g z x hz hx v′ (g .here f inf) (ap (λ (k : ℕ). ppx k .0) (sym c) ∙ d ∙ sym (g .frame-of f inf))),
               )
 
-  pub moved : Loads s b m y (loaded s b m y) (frame (s .frames) b)
-  moved = pick (decLt (b .used) (s .frames))
+  pub moved : frame (s .frames) b < s .frames → Loads s b m y (loaded s b m y) (frame (s .frames) b)
+  moved hf = pick (decLt (b .used) (s .frames))
     where
       pick : Dec (b .used < s .frames) → Loads s b m y (loaded s b m y) (frame (s .frames) b)
-      pick (yes q) = rw (loaded-free s b m y q, frame-free (s .frames) b q) (loads-free q)
+      pick (yes q) = rw (loaded-free s b m y q) (loads-free q (frame (s .frames) b) hf (omega (arith, frame-free (s .frames) b q)))
       pick (no n) =
           let q : s .frames ≤ b .used = omega (arith, n) in
-          rw (loaded-full s b m y q, frame-full (s .frames) b q) (loads-full q)
+          rw (loaded-full s b m y q) (loads-full q (frame (s .frames) b) hf)

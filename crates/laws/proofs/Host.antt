@@ -14,14 +14,14 @@ use Rattle.model.specs.Bytes.{page}
 use Rattle.model.specs.Pages.{virtual, pageOf, offset, mainAt, swapOf, swapAt}
 use Rattle.model.specs.Table.{entry, ppx, valid}
 use Rattle.model.specs.State.{Memory}
-use Rattle.model.specs.Translate.{has, translate, flatByte}
+use Rattle.model.specs.Translate.{has, translate, legal, flatByte}
 use Rattle.model.specs.Flat.{flatBytes}
-use Rattle.model.specs.Calls.{legal, permitted, bytesFrom, poke, bytesTo, pageBytes}
+use Rattle.model.specs.Calls.{permitted, bytesFrom, poke, bytesTo, pageBytes}
 use Rattle.model.specs.declared.Shape.{Shape}
 use Rattle.model.specs.declared.FrameBook.{FrameBook}
 use Rattle.model.specs.declared.VirtualPage.{VirtualPage}
 use Rattle.model.specs.declared.Access.the-variants.{Illegal, Fault, At}
-use Rattle.laws.specs.Good.{Fit, SwapLong, Seated}
+use Rattle.laws.specs.Good.{Fit, SwapLong, Seated, InTable}
 use Rattle.laws.proofs.Choice.{and-left, every-at, length-below, getD-below}
 use Rattle.laws.proofs.Bytes.{page-same}
 use Rattle.laws.proofs.Seated.{in-frames}
@@ -44,13 +44,10 @@ legal-granted s main w va =
     by true false here at = refl
     by false holds here at = refl
 
-pub legal-inside : (s : Shape) (main : List ℕ) (w : Bool) (va : ℕ) → legal (translate s main w va) ≡ true → pageOf va .0 < s .ptl
+legal-inside : (s : Shape) (main : List ℕ) (w : Bool) (va : ℕ) → legal (translate s main w va) ≡ true → pageOf va .0 < s .ptl
 legal-inside s main w va e = ltb-true _ _ (and-left _ _ (sym (legal-granted s main w va) ∙ e))
 
 -- a transfer that is permitted lies in the table
-abbrev pub InTable : Shape → ℕ → ℕ → Type 0
-InTable s va n = (i : ℕ) → i < n → pageOf (va + i) .0 < s .ptl
-
 pub permitted-inside : (w : Bool) (s : Shape) (main : List ℕ) (va n : ℕ) → permitted w s main va n ≡ true → InTable s va n
 unfolding permitted
 permitted-inside w s main va n e i q = legal-inside s main w (va + i) (every-at n _ e i q)

@@ -6,7 +6,7 @@ use lib.ListN.{getD}
 use Rattle.model.specs.Pages.{pageOf}
 use Rattle.model.specs.Attempt.{Tried}
 use Rattle.model.specs.Handler.{load}
-use Rattle.model.specs.Run.{Step, goes, stops, answer, Counted, try, put, served, attempts, instruction}
+use Rattle.model.specs.Run.{Step, goes, stops, answered, Counted, try, put, served, attempts, instruction}
 use Rattle.model.specs.Flat.{flat, flatTry, flatInstruction}
 use Rattle.model.specs.declared.Outcome.{Outcome}
 use Rattle.model.specs.declared.Outcome.the-variants.{Done, Trapped, Missing, Stopped}
@@ -40,7 +40,7 @@ not-limit at-alignment q = clash (cc)
 not-limit at-word q = clash (cc)
 
 settled : (c : Counted) → Good (c .state) → (again : ℕ → Step Counted) (t t′ : Tried) → Came (c .state) t t′ → flatTry (flatOf c) ≡ t′
-    → ((va : ℕ) → t .outcome ≡ Missing va → ⊥) → Settled c (answer c (put c) again t)
+    → ((va : ℕ) → t .outcome ≡ Missing va → ⊥) → Settled c (answered c (put c) again t)
 unfolding flatInstruction flat
 settled c g again t t′ (halts h) e n = record {
   same = rw e refl;
@@ -88,13 +88,13 @@ module _ (Q : ℕ → Counted → Step Counted → Type 0)
     → Q k (served c (pageOf va)) (attempts k (served c (pageOf va))) → Q (suc k) c (attempts k (served c (pageOf va))))
   where
     split : (k : ℕ) (c : Counted) → Good (c .state) → (again : ℕ → Step Counted)
-        → ((va : ℕ) → try (c .state) .outcome ≡ Missing va → Q k c (again va)) → Q k c (answer c (put c) again (try (c .state)))
+        → ((va : ℕ) → try (c .state) .outcome ≡ Missing va → Q k c (again va)) → Q k c (answered c (put c) again (try (c .state)))
     split k c g again f = by (try (c .state) .outcome) refl
       where
-        quiet : ((va : ℕ) → try (c .state) .outcome ≡ Missing va → ⊥) → Q k c (answer c (put c) again (try (c .state)))
+        quiet : ((va : ℕ) → try (c .state) .outcome ≡ Missing va → ⊥) → Q k c (answered c (put c) again (try (c .state)))
         quiet n = settle k c g _ (settled c g again (try (c .state)) (flatTry (flatOf c)) (came (c .state)) refl n)
 
-        by : (o : Outcome) → try (c .state) .outcome ≡ o → Q k c (answer c (put c) again (try (c .state)))
+        by : (o : Outcome) → try (c .state) .outcome ≡ o → Q k c (answered c (put c) again (try (c .state)))
         by (Done pcs) e = quiet (λ va q. clash (cc))
         by (Trapped pcs n) e = quiet (λ va q. clash (cc))
         by (Missing va) e = rw e (f va e)
@@ -107,11 +107,11 @@ module _ (Q : ℕ → Counted → Step Counted → Type 0)
         split (suc k) c g _ (λ va e. follow k c g va e (h va e) (attempts-all k (served c (pageOf va)) (miss-good (c .state) g va e) (h va e)))
 
 -- ---- a third load
-answer-same : (c : Counted) (again again′ : ℕ → Step Counted) → ((va : ℕ) → try (c .state) .outcome ≡ Missing va → again va ≡ again′ va)
-    → answer c (put c) again (try (c .state)) ≡ answer c (put c) again′ (try (c .state))
-answer-same c again again′ h = by (try (c .state) .outcome) refl
+answered-same : (c : Counted) (again again′ : ℕ → Step Counted) → ((va : ℕ) → try (c .state) .outcome ≡ Missing va → again va ≡ again′ va)
+    → answered c (put c) again (try (c .state)) ≡ answered c (put c) again′ (try (c .state))
+answered-same c again again′ h = by (try (c .state) .outcome) refl
   where
-    by : (o : Outcome) → try (c .state) .outcome ≡ o → answer c (put c) again (try (c .state)) ≡ answer c (put c) again′ (try (c .state))
+    by : (o : Outcome) → try (c .state) .outcome ≡ o → answered c (put c) again (try (c .state)) ≡ answered c (put c) again′ (try (c .state))
     by (Done pcs) e = rw e refl
     by (Trapped pcs n) e = rw e refl
     by (Missing va) e = rw e (h va e)
@@ -119,8 +119,8 @@ answer-same c again again′ h = by (try (c .state) .outcome) refl
 
 attempts-spare : (k : ℕ) (c : Counted) → Enough k (c .state) → attempts (suc k) c ≡ attempts k c
 unfolding attempts Enough
-attempts-spare zero c h = answer-same c _ _ (λ va e. absurd (h va e))
-attempts-spare (suc k) c h = answer-same c _ _ (λ va e. attempts-spare k (served c (pageOf va)) (h va e))
+attempts-spare zero c h = answered-same c _ _ (λ va e. absurd (h va e))
+attempts-spare (suc k) c h = answered-same c _ _ (λ va e. attempts-spare k (served c (pageOf va)) (h va e))
 
 pub third-spare : (c : Counted) → Good (c .state) → attempts 3 c ≡ instruction c
 unfolding instruction

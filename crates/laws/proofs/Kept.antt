@@ -26,11 +26,11 @@ use Rattle.laws.proofs.Stores.{entry-kept}
 use Rattle.laws.proofs.Agree.{Both, halts, misses-code, misses-data, sets, stores, traps, attempt-both}
 
 -- two main memories whose tables say the same
-abbrev pub SameTable : Shape → List ℕ → List ℕ → Type 0
+abbrev SameTable : Shape → List ℕ → List ℕ → Type 0
 SameTable s main main′ = (x : VirtualPage) → x .0 < s .ptl → entry s main′ x ≡ entry s main x
 
 module _ (s : Shape) (main main′ : List ℕ) (e : SameTable s main main′) where
-  pub translate-over : (w : Bool) (va : ℕ) → translate s main′ w va ≡ translate s main w va
+  translate-over : (w : Bool) (va : ℕ) → translate s main′ w va ≡ translate s main w va
   unfolding translate
   translate-over w va = pick (ltb (pageOf va .0) (s .ptl)) refl
     where
@@ -39,7 +39,7 @@ module _ (s : Shape) (main main′ : List ℕ) (e : SameTable s main main′) wh
       pick true q = ap (λ (k : ℕ). byEntry k w va) (e (pageOf va) (ltb-true _ _ q))
       pick false q = refl
 
-  pub safe-over : length main′ ≡ length main → Safe s main → Safe s main′
+  safe-over : length main′ ≡ length main → Safe s main → Safe s main′
   safe-over l h = record {
     fit = subst⁻¹ (λ (n : ℕ). Fit s n) l (h .fit);
     framed = λ x q v. rw (e x q) (h .framed x q (ap valid (sym (e x q)) ∙ v));
@@ -47,7 +47,7 @@ module _ (s : Shape) (main main′ : List ℕ) (e : SameTable s main main′) wh
 
 module _ (s : Shape) (main : List ℕ) (h : Safe s main) (gpr : List ℕ) (pcs : Pcs) where
   -- main memory after the attempt
-  abbrev pub after : List ℕ
+  abbrev after : List ℕ
   after = attempt (translate s main) gpr main pcs .bytes
 
   -- any swap does

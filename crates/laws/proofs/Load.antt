@@ -16,25 +16,26 @@ use Rattle.model.specs.Flat.{Flat, flat, rightsByte}
 use Rattle.model.specs.declared.Shape.{Shape}
 use Rattle.model.specs.declared.FrameBook.{FrameBook}
 use Rattle.model.specs.declared.VirtualPage.{VirtualPage}
-use Rattle.laws.specs.Good.{Fit, SwapLong, Seated, Good}
+use Rattle.laws.specs.Good.{Fit, SwapLong, Hand, Seated, Good}
 use Rattle.laws.proofs.Choice.{below-same}
 use Rattle.laws.proofs.Entries.{ppx-brought, valid-brought, valid-out, rights-brought, rights-out}
 use Rattle.laws.proofs.Moves.{page-discrete}
-use Rattle.laws.proofs.Seats.{Booked, Seats, seats}
+use Rattle.laws.proofs.Seats.{Seats, frame-free, frame-most, seats}
 use Rattle.laws.proofs.Handler.{Loads, strange, moved}
 -- the two cases of the definitions
 pub use Rattle.laws.proofs.Seats.{advanced-free, advanced-full}
 pub use Rattle.laws.proofs.Handler.{loaded-free, loaded-full}
 
 -- ---- one load: page y is in the table and not valid
-pub record Loaded (s : Shape) (b : FrameBook) (m : Memory) (y : VirtualPage) : Type 0 where
+pub record PageLoaded (s : Shape) (b : FrameBook) (m : Memory) (y : VirtualPage) : Type 0 where
   pub main-long : length (loaded s b m y .main) ≡ length (m .main)
   pub swap-long : length (loaded s b m y .swap) ≡ length (m .swap)
   pub seated : Seated s (advanced (s .frames) b y) (loaded s b m y .main)
+  pub hand : Hand (s .frames) (advanced (s .frames) b y)
   pub here : valid (entry s (loaded s b m y .main) y) ≡ true
-  pub stays : (z : VirtualPage) → z .0 < s .ptl → (z ≡ y → ⊥) → (s .frames ≤ b .used → z ≡ pageIn b (b .hand) → ⊥)
+  pub stays : (z : VirtualPage) → z .0 < s .ptl → (z ≡ y → ⊥) → (s .frames ≤ b .used → z ≡ pageIn b (frame (s .frames) b) → ⊥)
       → entry s (loaded s b m y .main) z ≡ entry s (m .main) z
-  pub gone : s .frames ≤ b .used → valid (entry s (loaded s b m y .main) (pageIn b (b .hand))) ≡ false
+  pub gone : s .frames ≤ b .used → valid (entry s (loaded s b m y .main) (pageIn b (frame (s .frames) b))) ≡ false
   pub bytes : (va : ℕ) → pageOf va .0 < s .ptl → flatByte s (loaded s b m y) va ≡ flatByte s m va
   pub rights : (z : VirtualPage) → z .0 < s .ptl → rightsByte (entry s (loaded s b m y .main) z) ≡ rightsByte (entry s (m .main) z)
   pub put : pageIn (advanced (s .frames) b y) (frame (s .frames) b) ≡ y
@@ -42,34 +43,25 @@ pub record Loaded (s : Shape) (b : FrameBook) (m : Memory) (y : VirtualPage) : T
   -- "the page loaded last is never the victim"
   pub moves : frame (s .frames) (advanced (s .frames) b y) ≡ frame (s .frames) b → ⊥
 
-module _ (s : Shape) (b : FrameBook) (m : Memory) (h : Fit s (length (m .main))) (w : SwapLong s (length (m .swap))) (g : Seated s b (m .main))
+module _ (s : Shape) (b : FrameBook) (m : Memory) (h : Fit s (length (m .main))) (w : SwapLong s (length (m .swap))) (g : Seated s b (m .main)) (hand : Hand (s .frames) b)
     (y : VirtualPage) (hy : y .0 < s .ptl) (hv : valid (entry s (m .main) y) ≡ false) where
   nowhere : (i : ℕ) → i < b .used → y ≡ pageIn b i → ⊥
   nowhere = strange s b m h w g y hy hv
 
-  booked : Booked (s .frames) b
-  booked = record {
-    two = h .frames-least;
-    most = h .frames-most;
-    array = g .array;
-    used-most = g .used-most;
-    hand-still = g .hand-still;
-    hand-most = g .hand-most;
-  }
-
   -- ---- the book and the table afterwards
-  module _ (b′ : FrameBook) (m′ : Memory) (f : ℕ) (l : Loads s b m y m′ f) (t : Seats (s .frames) b y b′ f) where
+  module _ (b′ : FrameBook) (m′ : Memory) (f : ℕ) (hf : f < s .frames) (fresh : b .used < s .frames → f ≡ b .used) (l : Loads s b m y m′ f)
+      (t : Seats (s .frames) b y b′ f) where
     -- the entry of a page that stays
     kept : (i : ℕ) → i < b .used → (i ≡ f → ⊥) → entry s (m′ .main) (pageIn b i) ≡ entry s (m .main) (pageIn b i)
     kept i q n =
         l .stays (pageIn b i) (g .in-table i q) (λ e. nowhere i q (sym e))
-        (λ r e. n (g .differ i (b .hand) q (omega (arith, r, g .hand-most)) e ∙ sym (t .full r)))
+        (λ r e. n (g .differ i f q (omega (arith, r, hf)) e))
 
     valid-new : valid (entry s (m′ .main) y) ≡ true
     valid-new = ap valid (l .new) ∙ valid-brought (frameAt s f) (entry s (m .main) y)
 
-    valid-gone : s .frames ≤ b .used → valid (entry s (m′ .main) (pageIn b (b .hand))) ≡ false
-    valid-gone r = ap valid (l .gone r) ∙ valid-out (entry s (m .main) (pageIn b (b .hand)))
+    valid-gone : s .frames ≤ b .used → valid (entry s (m′ .main) (pageIn b f)) ≡ false
+    valid-gone r = ap valid (l .gone r) ∙ valid-out (entry s (m .main) (pageIn b f))
 
     -- by cases: the frame, or another
     at-frame : (P : ℕ → VirtualPage → Type 0) → P f y → ((i : ℕ) → i < b .used → (i ≡ f → ⊥) → P i (pageIn b i))
@@ -83,20 +75,18 @@ module _ (s : Shape) (b : FrameBook) (m : Memory) (h : Fit s (length (m .main)))
     only′ : (x : VirtualPage) → x .0 < s .ptl → valid (entry s (m′ .main) x) ≡ true → (i : ℕ) × (i < b′ .used) × (pageIn b′ i ≡ x)
     only′ x hx v = pick (page-discrete x y)
       where
-        victim : s .frames ≤ b .used → x ≡ pageIn b (b .hand) → ⊥
+        victim : s .frames ≤ b .used → x ≡ pageIn b f → ⊥
         victim r e = true≢false (sym v ∙ ap (λ z. valid (entry s (m′ .main) z)) e ∙ valid-gone r)
 
         elsewhere : (u : (i : ℕ) × (i < b .used) × (pageIn b i ≡ x)) → Dec (b .used < s .frames) → u .0 ≡ f → ⊥
-        elsewhere u (yes r) e = omega (arith, e, t .fresh r, u .1)
-        elsewhere u (no r) e =
-            let q : s .frames ≤ b .used = omega (arith, r) in
-            victim q (sym (u .2) ∙ ap (pageIn b) (e ∙ t .full q))
+        elsewhere u (yes r) e = omega (arith, e, fresh r, u .1)
+        elsewhere u (no r) e = victim (omega (arith, r)) (sym (u .2) ∙ ap (pageIn b) e)
 
         pick : Dec (x ≡ y) → (i : ℕ) × (i < b′ .used) × (pageIn b′ i ≡ x)
         pick (yes e) = (f, t .in-use, t .put ∙ sym e)
         pick (no n) =
             let u : (i : ℕ) × (i < b .used) × (pageIn b i ≡ x) = g .only x hx (ap valid (sym (l .stays x hx n victim)) ∙ v) in
-            (u .0, omega (arith, u .1, t .grown), t .stay (u .0) (elsewhere u (decLt (b .used) (s .frames))) ∙ u .2)
+            (u .0, omega (arith, u .1, t .grown-by), t .stay (u .0) (elsewhere u (decLt (b .used) (s .frames))) ∙ u .2)
 
     differ′ : (i j : ℕ) → i < b′ .used → j < b′ .used → pageIn b′ i ≡ pageIn b′ j → i ≡ j
     differ′ i j q r e = pick (ℕ-discrete i f) (ℕ-discrete j f)
@@ -109,46 +99,44 @@ module _ (s : Shape) (b : FrameBook) (m : Memory) (h : Fit s (length (m .main)))
 
     seated′ : Seated s b′ (m′ .main)
     seated′ = record {
-      array = t .booked .array;
-      used-most = t .booked .used-most;
+      booked = t .booked;
       in-table = at-frame (λ i z. z .0 < s .ptl) hy (λ i q n. g .in-table i q);
       differ = differ′;
-      rest = λ i q r. t .stay i (λ e. omega (arith, e, t .in-use, q)) ∙ g .rest i (omega (arith, t .grown, q)) r;
+      rest = λ i q r. t .stay i (λ e. omega (arith, e, t .in-use, q)) ∙ g .rest i (omega (arith, t .grown-by, q)) r;
       here = at-frame (λ i z. valid (entry s (m′ .main) z) ≡ true) valid-new (λ i q n. ap valid (kept i q n) ∙ g .here i q);
       frame-of = at-frame (λ i z. ppx (entry s (m′ .main) z) .0 ≡ s .abase + i)
           (ap (λ (k : ℕ). ppx k .0) (l .new)
           ∙ ppx-brought (frameAt s f) (entry s (m .main) y) (omega (arith, h .frames-in, h .pages-most, t .in-use, t .booked .used-most)))
           (λ i q n. ap (λ (k : ℕ). ppx k .0) (kept i q n) ∙ g .frame-of i q);
       only = only′;
-      hand-still = t .booked .hand-still;
-      hand-most = t .booked .hand-most;
     }
 
     -- "r and w stay"
     rights′ : (z : VirtualPage) → z .0 < s .ptl → rightsByte (entry s (m′ .main) z) ≡ rightsByte (entry s (m .main) z)
-    rights′ z hz = pick (page-discrete z y) (page-discrete z (pageIn b (b .hand))) (decLt (b .used) (s .frames))
+    rights′ z hz = pick (page-discrete z y) (page-discrete z (pageIn b f)) (decLt (b .used) (s .frames))
       where
-        pick : Dec (z ≡ y) → Dec (z ≡ pageIn b (b .hand)) → Dec (b .used < s .frames)
+        pick : Dec (z ≡ y) → Dec (z ≡ pageIn b f) → Dec (b .used < s .frames)
             → rightsByte (entry s (m′ .main) z) ≡ rightsByte (entry s (m .main) z)
         pick (yes e) d c =
             ap (λ x. rightsByte (entry s (m′ .main) x)) e ∙ ap rightsByte (l .new) ∙ rights-brought (frameAt s f) (entry s (m .main) y)
             ∙ ap (λ x. rightsByte (entry s (m .main) x)) (sym e)
         pick (no n) (yes e) (no c) =
-            ap (λ x. rightsByte (entry s (m′ .main) x)) e ∙ ap rightsByte (l .gone (omega (arith, c))) ∙ rights-out (entry s (m .main) (pageIn b (b .hand)))
+            ap (λ x. rightsByte (entry s (m′ .main) x)) e ∙ ap rightsByte (l .gone (omega (arith, c))) ∙ rights-out (entry s (m .main) (pageIn b f))
             ∙ ap (λ x. rightsByte (entry s (m .main) x)) (sym e)
         pick (no n) (yes e) (yes c) = ap rightsByte (l .stays z hz n (λ q r. omega (arith, c, q)))
         pick (no n) (no d) c = ap rightsByte (l .stays z hz n (λ q r. d r))
 
-  pub loads : Loaded s b m y
+  pub loads : PageLoaded s b m y
   loads = record {
     main-long = l .main-long;
     swap-long = l .swap-long;
-    seated = seated′ b′ m′ f l t;
-    here = valid-new b′ m′ f l t;
+    seated = seated′ b′ m′ f hf fresh l t;
+    hand = t .hand;
+    here = valid-new b′ m′ f hf fresh l t;
     stays = l .stays;
-    gone = valid-gone b′ m′ f l t;
+    gone = valid-gone b′ m′ f hf fresh l t;
     bytes = l .bytes;
-    rights = rights′ b′ m′ f l t;
+    rights = rights′ b′ m′ f hf fresh l t;
     put = t .put;
     in-use = t .in-use;
     moves = t .moves;
@@ -163,16 +151,22 @@ module _ (s : Shape) (b : FrameBook) (m : Memory) (h : Fit s (length (m .main)))
       f : ℕ
       f = frame (s .frames) b
 
+      hf : f < s .frames
+      hf = frame-most (s .frames) b hand
+
+      fresh : b .used < s .frames → f ≡ b .used
+      fresh = frame-free (s .frames) b
+
       l : Loads s b m y m′ f
-      l = moved s b m h w g y hy hv
+      l = moved s b m h w g y hy hv hf
 
       t : Seats (s .frames) b y b′ f
-      t = seats (s .frames) b y booked
+      t = seats (s .frames) (h .frames-least) (h .frames-most) b y (g .booked) hand
 
 -- ---- a whole state
 module _ (p : State) (g : Good p) (y : VirtualPage) (hy : y .0 < p .machine .shape .ptl) (hv : valid (entry (p .machine .shape) (p .memory .main) y) ≡ false) where
-  one-load : Loaded (p .machine .shape) (p .machine .book) (p .memory) y
-  one-load = loads (p .machine .shape) (p .machine .book) (p .memory) (g .fit) (g .whole) (g .seated) y hy hv
+  one-load : PageLoaded (p .machine .shape) (p .machine .book) (p .memory) y
+  one-load = loads (p .machine .shape) (p .machine .book) (p .memory) (g .fit) (g .whole) (g .seated) (g .hand) y hy hv
 
   pub load-good : Good (load p y)
   unfolding load
@@ -180,6 +174,7 @@ module _ (p : State) (g : Good p) (y : VirtualPage) (hy : y .0 < p .machine .sha
     fit = subst⁻¹ (λ (n : ℕ). Fit (p .machine .shape) n) (one-load .main-long) (g .fit);
     whole = one-load .swap-long ∙ g .whole;
     seated = one-load .seated;
+    hand = one-load .hand;
     zero = g .zero;
   }
 

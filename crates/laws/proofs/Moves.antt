@@ -124,9 +124,6 @@ module _ (s : Shape) (m : Memory) (h : Fit s (length (m .main))) (w : SwapLong s
     unfolding into
     into-swap-long = refl
 
-    pub into-fit : Fit s (length (into s m f y .main))
-    into-fit = subst⁻¹ (λ (n : ℕ). Fit s n) into-main-long h
-
     pub into-same : entry s (into s m f y .main) y ≡ broughtTo (frameAt s f) (entry s (m .main) y)
     unfolding into copied
     into-same =

@@ -7,31 +7,32 @@ use native.Mathlib.Decide.{decLt}
 use lib.ListN.{length, getD}
 use Rattle.model.specs.Bytes.{page, withPage}
 use Rattle.model.specs.Pages.{entryAt, swapOf}
-use Rattle.model.specs.Frames.{pageIn}
+use Rattle.model.specs.Frames.{pageIn, frame}
 use Rattle.model.specs.State.{Memory}
 use Rattle.model.specs.Handler.{out, into, loaded}
 use Rattle.model.specs.declared.Shape.{Shape}
 use Rattle.model.specs.declared.FrameBook.{FrameBook}
 use Rattle.model.specs.declared.VirtualPage.{VirtualPage}
-use Rattle.laws.specs.Good.{Fit, SwapLong, Seated}
+use Rattle.laws.specs.Good.{Fit, SwapLong, Hand, Seated}
 use Rattle.laws.specs.Named.{Off}
 use Rattle.laws.proofs.Bytes.{withPage-other}
 use Rattle.laws.proofs.Table.{byte-other}
 use Rattle.laws.proofs.Moves.{frame-fits, swap-fits, leaving, coming, out-fit, out-whole}
+use Rattle.laws.proofs.Seats.{frame-most}
 use Rattle.laws.proofs.Handler.{loaded-free, loaded-full}
 
 -- ---- each move
 module _ (s : Shape) (m : Memory) (h : Fit s (length (m .main))) (w : SwapLong s (length (m .swap))) (f : ℕ) (x : VirtualPage) (hf : f < s .frames)
     (hx : x .0 < s .ptl) (i : ℕ) where
-  pub out-off : Off (entryAt s x) 4 i → getD (out s m f x .main) i 0 ≡ getD (m .main) i 0
+  out-off : Off (entryAt s x) 4 i → getD (out s m f x .main) i 0 ≡ getD (m .main) i 0
   unfolding out
   out-off o = byte-other s (m .main) x _ i o
 
-  pub out-swap-off : Off (4096 * swapOf s x .0) 4096 i → getD (out s m f x .swap) i 0 ≡ getD (m .swap) i 0
+  out-swap-off : Off (4096 * swapOf s x .0) 4096 i → getD (out s m f x .swap) i 0 ≡ getD (m .swap) i 0
   unfolding out
   out-swap-off o = withPage-other (m .swap) (s .sbase + x .0) (page (m .main) (s .abase + f)) (swap-fits s m h w x hx) (leaving s m h w f x hf hx) i o
 
-  pub into-off : Off (4096 * s .abase) (4096 * s .frames) i → Off (entryAt s x) 4 i → getD (into s m f x .main) i 0 ≡ getD (m .main) i 0
+  into-off : Off (4096 * s .abase) (4096 * s .frames) i → Off (entryAt s x) 4 i → getD (into s m f x .main) i 0 ≡ getD (m .main) i 0
   unfolding into
   into-off o r =
       byte-other s (withPage (m .main) (s .abase + f) (page (m .swap) (s .sbase + x .0))) x _ i r
@@ -40,35 +41,44 @@ module _ (s : Shape) (m : Memory) (h : Fit s (length (m .main))) (w : SwapLong s
 
 -- ---- a load
 -- where a frame is free swap stays as it is
-pub load-swap-free : (s : Shape) (b : FrameBook) (m : Memory) (y : VirtualPage) → b .used < s .frames → loaded s b m y .swap ≡ m .swap
+load-swap-free : (s : Shape) (b : FrameBook) (m : Memory) (y : VirtualPage) → b .used < s .frames → loaded s b m y .swap ≡ m .swap
 unfolding into
 load-swap-free s b m y q = ap (λ k. k .swap) (loaded-free s b m y q)
 
-module _ (s : Shape) (b : FrameBook) (m : Memory) (h : Fit s (length (m .main))) (w : SwapLong s (length (m .swap))) (g : Seated s b (m .main))
+module _ (s : Shape) (b : FrameBook) (m : Memory) (h : Fit s (length (m .main))) (w : SwapLong s (length (m .swap))) (g : Seated s b (m .main)) (hand : Hand (s .frames) b)
     (y : VirtualPage) (hy : y .0 < s .ptl) (i : ℕ) where
-  leaves : s .frames ≤ b .used → pageIn b (b .hand) .0 < s .ptl
-  leaves q = g .in-table (b .hand) (omega (arith, q, g .hand-most))
+  -- the frame that is taken, and its page
+  f : ℕ
+  f = frame (s .frames) b
 
-  pub load-off : Off (4096 * s .abase) (4096 * s .frames) i → Off (entryAt s y) 4 i → (s .frames ≤ b .used → Off (entryAt s (pageIn b (b .hand))) 4 i)
+  hf : f < s .frames
+  unfolding f
+  hf = frame-most (s .frames) b hand
+
+  leaves : s .frames ≤ b .used → pageIn b f .0 < s .ptl
+  leaves q = g .in-table f (omega (arith, q, hf))
+
+  pub load-off : Off (4096 * s .abase) (4096 * s .frames) i → Off (entryAt s y) 4 i → (s .frames ≤ b .used → Off (entryAt s (pageIn b (frame (s .frames) b))) 4 i)
       → getD (loaded s b m y .main) i 0 ≡ getD (m .main) i 0
+  unfolding f
   load-off o r v = pick (decLt (b .used) (s .frames))
     where
       pick : Dec (b .used < s .frames) → getD (loaded s b m y .main) i 0 ≡ getD (m .main) i 0
-      pick (yes q) = ap (λ k. getD (k .main) i 0) (loaded-free s b m y q) ∙ into-off s m h w (b .used) y q hy i o r
+      pick (yes q) = ap (λ k. getD (k .main) i 0) (loaded-free s b m y q) ∙ into-off s m h w f y hf hy i o r
       pick (no n) =
           let q : s .frames ≤ b .used = omega (arith, n) in
-          let x : VirtualPage = pageIn b (b .hand) in
+          let x : VirtualPage = pageIn b f in
           ap (λ k. getD (k .main) i 0) (loaded-full s b m y q)
-          ∙ into-off s (out s m (b .hand) x) (out-fit s m h w (b .hand) x (g .hand-most) (leaves q)) (out-whole s m h w (b .hand) x (g .hand-most) (leaves q))
-          (b .hand) y (g .hand-most) hy i o r
-          ∙ out-off s m h w (b .hand) x (g .hand-most) (leaves q) i (v q)
+          ∙ into-off s (out s m f x) (out-fit s m h w f x hf (leaves q)) (out-whole s m h w f x hf (leaves q)) f y hf hy i o r
+          ∙ out-off s m h w f x hf (leaves q) i (v q)
 
-  pub load-swap-off : (s .frames ≤ b .used → Off (4096 * swapOf s (pageIn b (b .hand)) .0) 4096 i) → getD (loaded s b m y .swap) i 0 ≡ getD (m .swap) i 0
-  unfolding into
+  pub load-swap-off : (s .frames ≤ b .used → Off (4096 * swapOf s (pageIn b (frame (s .frames) b)) .0) 4096 i)
+      → getD (loaded s b m y .swap) i 0 ≡ getD (m .swap) i 0
+  unfolding into f
   load-swap-off v = pick (decLt (b .used) (s .frames))
     where
       pick : Dec (b .used < s .frames) → getD (loaded s b m y .swap) i 0 ≡ getD (m .swap) i 0
       pick (yes q) = ap (λ l. getD l i 0) (load-swap-free s b m y q)
       pick (no n) =
           let q : s .frames ≤ b .used = omega (arith, n) in
-          ap (λ k. getD (k .swap) i 0) (loaded-full s b m y q) ∙ out-swap-off s m h w (b .hand) (pageIn b (b .hand)) (g .hand-most) (leaves q) i (v q)
+          ap (λ k. getD (k .swap) i 0) (loaded-full s b m y q) ∙ out-swap-off s m h w f (pageIn b f) hf (leaves q) i (v q)

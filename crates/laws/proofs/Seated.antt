@@ -26,7 +26,7 @@ module _ (s : Shape) (b : FrameBook) (main : List ℕ) (h : Seated s b main) whe
   in-frames x q v =
       let t : (i : ℕ) × (i < b .used) × (pageIn b i ≡ x) = h .only x q v in
       let e : ppx (entry s main x) .0 ≡ s .abase + t .0 = framed x t in
-      (omega (arith, e), omega (arith, e, t .1, h .used-most))
+      (omega (arith, e), omega (arith, e, t .1, h .booked .used-most))
 
   -- two resident pages stand in two frames
   pub apart : (x y : VirtualPage) → x .0 < s .ptl → y .0 < s .ptl → valid (entry s main x) ≡ true → valid (entry s main y) ≡ true

@@ -1,16 +1,19 @@
 -- The frame book after a load, apart from memory: which frame took the page, what stays, and "the page loaded last is never the victim".
-use mathlib.Core.Path.{_≡_, refl, sym, ap, _∙_}
+-- Only this file looks at hand, and the ring of bound, by `frame-full`: what others need of the next victim is `frame-most`, `frame-used`
+-- and `seats`.
+use mathlib.Core.Path.{_≡_, sym, ap, _∙_}
 use Prim.Native.Nat.{ℕ, _+_, _%_, _<_, _≤_}
 use native.Mathlib.Omega.{arith}
 use native.Mathlib.Nat.{mod-lt, mod-eq-of-lt, mod-self}
 use native.Mathlib.Decide.{decLt}
 use borrow.Author.Tests.{lt-ltb, le-ltb}
-use lib.ListN.{length, set, length-set}
+use lib.ListN.{length, length-set}
 use lib.Seq.{getD-set-same, getD-set-other}
 use Rattle.model.specs.Pages.{virtual}
-use Rattle.model.specs.Frames.{pageIn, frame, advanced}
+use Rattle.model.specs.Frames.{pageIn, frame, seat, grown, turned, advanced}
 use Rattle.model.specs.declared.FrameBook.{FrameBook}
 use Rattle.model.specs.declared.VirtualPage.{VirtualPage}
+use Rattle.laws.specs.Good.{Booked, Hand}
 
 -- ---- the two cases: a frame is free, or none is
 pub frame-free : (a : ℕ) (b : FrameBook) → b .used < a → frame a b ≡ b .used
@@ -19,102 +22,89 @@ frame-free a b q = rw (lt-ltb _ _ q)
 pub frame-full : (a : ℕ) (b : FrameBook) → a ≤ b .used → frame a b ≡ b .hand
 frame-full a b q = rw (le-ltb _ _ q)
 
-pub advanced-free : (a : ℕ) (b : FrameBook) (y : VirtualPage) → b .used < a
-    → advanced a b y ≡ record { used = b .used + 1; hand = b .hand; held = set (b .held) (b .used) y }
+pub advanced-free : (a : ℕ) (b : FrameBook) (y : VirtualPage) → b .used < a → advanced a b y ≡ grown (seat b (frame a b) y)
 unfolding advanced
 advanced-free a b y q = rw (advanced, lt-ltb _ _ q)
 
-pub advanced-full : (a : ℕ) (b : FrameBook) (y : VirtualPage) → a ≤ b .used
-    → advanced a b y ≡ record { used = b .used; hand = (b .hand + 1) % a; held = set (b .held) (b .hand) y }
+pub advanced-full : (a : ℕ) (b : FrameBook) (y : VirtualPage) → a ≤ b .used → advanced a b y ≡ turned a (frame a b) (seat b (frame a b) y)
 unfolding advanced
 advanced-full a b y q = rw (advanced, le-ltb _ _ q)
 
--- ---- what a book may be: the part of `Seated` that speaks of no page
-pub record Booked (a : ℕ) (b : FrameBook) : Type 0 where
-  pub two : 2 ≤ a
-  pub most : a ≤ 32
-  pub array : length (b .held) ≡ 32
-  pub used-most : b .used ≤ a
-  pub hand-still : b .used < a → b .hand ≡ 0
-  pub hand-most : b .hand < a
+-- ---- the frame that the next load takes
+pub frame-most : (a : ℕ) (b : FrameBook) → Hand a b → frame a b < a
+frame-most a b h = pick (decLt (b .used) a)
+  where
+    pick : Dec (b .used < a) → frame a b < a
+    pick (yes q) = rw (frame-free a b q) q
+    pick (no n) = rw (frame-full a b (omega (arith, n))) (h .most)
 
--- book b′ is book b with page y in frame f
+-- where none is free it is in use
+pub frame-used : (a : ℕ) (b : FrameBook) → Hand a b → a ≤ b .used → frame a b < b .used
+frame-used a b h q = omega (arith, q, frame-most a b h)
+
+-- book b′ is book b with page y in frame f, and the next load takes another
 pub record Seats (a : ℕ) (b : FrameBook) (y : VirtualPage) (b′ : FrameBook) (f : ℕ) : Type 0 where
   pub booked : Booked a b′
+  pub hand : Hand a b′
   pub put : pageIn b′ f ≡ y
   pub stay : (i : ℕ) → (i ≡ f → ⊥) → pageIn b′ i ≡ pageIn b i
   pub in-use : f < b′ .used
-  pub grown : b .used ≤ b′ .used
+  pub grown-by : b .used ≤ b′ .used
   pub before : (i : ℕ) → i < b′ .used → (i ≡ f → ⊥) → i < b .used
-  pub fresh : b .used < a → f ≡ b .used
-  pub full : a ≤ b .used → f ≡ b .hand
   pub moves : frame a b′ ≡ f → ⊥
 
-module _ (a : ℕ) (b : FrameBook) (y : VirtualPage) (g : Booked a b) where
-  put-at : (f u k : ℕ) → f < 32 → pageIn (record { used = u; hand = k; held = set (b .held) f y }) f ≡ y
-  put-at f u k q = getD-set-same (b .held) f y (virtual 0) (omega (arith, q, g .array))
+module _ (a : ℕ) (two : 2 ≤ a) (most : a ≤ 32) (b : FrameBook) (y : VirtualPage) (g : Booked a b) (h : Hand a b) where
+  -- B with y in the frame, whatever the numbers beside it become
+  array′ : length (seat b (frame a b) y .held) ≡ 32
+  array′ = length-set (b .held) (frame a b) y ∙ g .array
 
-  stay-at : (f i u k : ℕ) → (i ≡ f → ⊥) → pageIn (record { used = u; hand = k; held = set (b .held) f y }) i ≡ pageIn b i
-  stay-at f i u k n = getD-set-other (b .held) f i y (virtual 0) n
+  put′ : pageIn (seat b (frame a b) y) (frame a b) ≡ y
+  put′ = getD-set-same (b .held) (frame a b) y (virtual 0) (omega (arith, frame-most a b h, most, g .array))
 
-  -- ---- the next load takes another frame
-  moves-free : b .used < a → Dec (b .used + 1 < a) → frame a (record { used = b .used + 1; hand = b .hand; held = set (b .held) (b .used) y }) ≡ b .used → ⊥
-  moves-free q (yes r) e = omega (arith, rw (lt-ltb _ _ r) at e)
-  moves-free q (no r) e =
-      let z : b .hand ≡ b .used = rw (le-ltb (b .used + 1) a (omega (arith, r))) at e in
-      omega (arith, z, g .hand-still q, g .two, r)
+  stay′ : (i : ℕ) → (i ≡ frame a b → ⊥) → pageIn (seat b (frame a b) y) i ≡ pageIn b i
+  stay′ i n = getD-set-other (b .held) (frame a b) i y (virtual 0) n
 
-  moves-full : Dec (b .hand + 1 < a) → (b .hand + 1) % a ≡ b .hand → ⊥
-  moves-full (yes r) e = omega (arith, sym (mod-eq-of-lt r) ∙ e)
-  moves-full (no r) e =
-      let z : b .hand + 1 ≡ a = omega (arith, r, g .hand-most) in
-      omega (arith, sym (mod-self a) ∙ ap (λ (k : ℕ). k % a) (sym z) ∙ e, z, g .two)
-
-  seats-free : b .used < a → Seats a b y (record { used = b .used + 1; hand = b .hand; held = set (b .held) (b .used) y }) (b .used)
+  seats-free : b .used < a → Seats a b y (grown (seat b (frame a b) y)) (frame a b)
   seats-free q = record {
-    booked = record {
-      two = g .two;
-      most = g .most;
-      array = length-set (b .held) (b .used) y ∙ g .array;
-      used-most = omega (arith, q);
-      hand-still = λ r. g .hand-still q;
-      hand-most = g .hand-most;
-    };
-    put = put-at (b .used) (b .used + 1) (b .hand) (omega (arith, q, g .most));
-    stay = λ i n. stay-at (b .used) i (b .used + 1) (b .hand) n;
-    in-use = omega arith;
-    grown = omega arith;
-    before = λ i r n. omega (arith, r, n);
-    fresh = λ r. refl;
-    full = λ r. absurd (omega (arith, q, r));
-    moves = moves-free q (decLt (b .used + 1) a);
+    booked = record { array = array′; used-most = omega (arith, q) };
+    hand = record { still = λ r. h .still q; most = h .most };
+    put = put′;
+    stay = stay′;
+    in-use = omega (arith, frame-free a b q);
+    grown-by = omega arith;
+    before = λ i r n. omega (arith, r, n, frame-free a b q);
+    moves = λ e. moves (decLt (b .used + 1) a) (e ∙ frame-free a b q);
   }
+    where
+      moves : Dec (b .used + 1 < a) → frame a (grown (seat b (frame a b) y)) ≡ b .used → ⊥
+      moves (yes r) e = omega (arith, sym (frame-free a (grown (seat b (frame a b) y)) r) ∙ e)
+      moves (no r) e =
+          let z : b .hand ≡ b .used = sym (frame-full a (grown (seat b (frame a b) y)) (omega (arith, r))) ∙ e in
+          omega (arith, z, h .still q, two, r)
 
-  seats-full : a ≤ b .used → Seats a b y (record { used = b .used; hand = (b .hand + 1) % a; held = set (b .held) (b .hand) y }) (b .hand)
+  seats-full : a ≤ b .used → Seats a b y (turned a (frame a b) (seat b (frame a b) y)) (frame a b)
   seats-full q = record {
-    booked = record {
-      two = g .two;
-      most = g .most;
-      array = length-set (b .held) (b .hand) y ∙ g .array;
-      used-most = g .used-most;
-      hand-still = λ r. absurd (omega (arith, q, r));
-      hand-most = mod-lt (b .hand + 1) (omega (arith, g .two));
-    };
-    put = put-at (b .hand) (b .used) ((b .hand + 1) % a) (omega (arith, g .hand-most, g .most));
-    stay = λ i n. stay-at (b .hand) i (b .used) ((b .hand + 1) % a) n;
-    in-use = omega (arith, q, g .hand-most);
-    grown = omega arith;
+    booked = record { array = array′; used-most = g .used-most };
+    hand = record { still = λ r. absurd (omega (arith, q, r)); most = mod-lt (frame a b + 1) (omega (arith, two)) };
+    put = put′;
+    stay = stay′;
+    in-use = frame-used a b h q;
+    grown-by = omega arith;
     before = λ i r n. r;
-    fresh = λ r. absurd (omega (arith, q, r));
-    full = λ r. refl;
-    moves = λ e. moves-full (decLt (b .hand + 1) a) (rw (le-ltb (b .used) a q) at e);
+    moves = λ e. moves (decLt (frame a b + 1) a) (sym (frame-full a (turned a (frame a b) (seat b (frame a b) y)) q) ∙ e);
   }
+    where
+      moves : Dec (frame a b + 1 < a) → (frame a b + 1) % a ≡ frame a b → ⊥
+      moves (yes r) e = omega (arith, sym (mod-eq-of-lt r) ∙ e)
+      moves (no r) e =
+          let z : frame a b + 1 ≡ a = omega (arith, r, frame-most a b h) in
+          omega (arith, sym (mod-self a) ∙ ap (λ (k : ℕ). k % a) (sym z) ∙ e, z, two)
 
   pub seats : Seats a b y (advanced a b y) (frame a b)
   seats = pick (decLt (b .used) a)
     where
       pick : Dec (b .used < a) → Seats a b y (advanced a b y) (frame a b)
-      pick (yes q) = rw (advanced-free a b y q, frame-free a b q) (seats-free q)
+      pick (yes q) = rw (advanced-free a b y q) (seats-free q)
       pick (no n) =
           let q : a ≤ b .used = omega (arith, n) in
-          rw (advanced-full a b y q, frame-full a b q) (seats-full q)
+          rw (advanced-full a b y q) (seats-full q)

@@ -9,7 +9,7 @@ use Rattle.model.specs.Words.{aligned}
 use Rattle.model.specs.Bytes.{number}
 use Rattle.model.specs.Pages.{pageOf, offset, swapOf, swapAt}
 use Rattle.model.specs.Instruction.{plan, written}
-use Rattle.model.specs.Attempt.{tried, obey, attempt}
+use Rattle.model.specs.Attempt.{tried, transfer, obey, attempt}
 use Rattle.model.specs.declared.Shape.{Shape}
 use Rattle.model.specs.declared.Pcs.{Pcs}
 use Rattle.model.specs.declared.Access.{Access}
@@ -25,5 +25,5 @@ swap-address s va = omega arith
 pub set-target : (access : Bool → ℕ → Access) (gpr bytes : List ℕ) (pcs : Pcs) (i rd v target : ℕ) → aligned 4 (pcs .dpc) ≡ true
     → access false (pcs .dpc) ≡ At i → plan gpr (pcs .next) (number 4 bytes i) ≡ Set rd v target
     → attempt access gpr bytes pcs ≡ tried (Done (record { dpc = pcs .next; next = target })) (written gpr rd v) bytes
-unfolding attempt obey
+unfolding attempt transfer obey
 set-target access gpr bytes pcs i rd v target a f e = rw (a, f, e) refl

@@ -10,16 +10,16 @@ use native.Mathlib.Decide.{decLt, ℕ-discrete}
 use lib.Dec.{eqb, ltb}
 use lib.ListN.{length, getD}
 use borrow.Author.Tests.{leb-true, ltb-true, eqb-true, le-leb, lt-ltb, le-ltb, eq-eqb, ne-eqb, not-true}
-use Rattle.model.specs.Choice.{if_then_else_, passes}
+use Rattle.model.specs.Choice.{passes}
 use Rattle.model.specs.Pages.{virtual}
 use Rattle.model.specs.Table.{entry, valid}
-use Rattle.model.specs.Frames.{pageIn, free, among, resident}
-use Rattle.model.specs.Sound.{shapeTests, fits, bookTests, sound}
+use Rattle.model.specs.Frames.{pageIn, among, resident}
+use Rattle.model.specs.Sound.{shapeTests, fits, zeroFrom, entryRight, handRight, bookTests, sound}
 use Rattle.model.specs.State.{Memory, State}
 use Rattle.model.specs.declared.Shape.{Shape}
 use Rattle.model.specs.declared.FrameBook.{FrameBook}
 use Rattle.model.specs.declared.VirtualPage.{VirtualPage}
-use Rattle.laws.specs.Good.{Fit, SwapLong, Seated, Good}
+use Rattle.laws.specs.Good.{Fit, SwapLong, Hand, Seated, Good}
 use Rattle.laws.proofs.Choice.{and-left, and-right, and-both, or-left, or-right, or-second, every-at, every-from, pass, pass-none, pass-more}
 use Rattle.laws.proofs.Seated.{same-page}
 
@@ -80,19 +80,16 @@ fits-of s m f w =
 
 -- ---- the book and the table
 module _ (s : Shape) (b : FrameBook) (main : List ℕ) where
-  pub seated-of : 2 ≤ s .frames → length (b .held) ≡ 32 → passes (bookTests s b main) ≡ true → Seated s b main
+  pub seated-of : length (b .held) ≡ 32 → passes (bookTests s b main) ≡ true → Seated s b main
   unfolding resident
-  seated-of two len e = record {
-    array = len;
-    used-most = leb-true _ _ (t 0);
+  seated-of len e = record {
+    booked = record { array = len; used-most = leb-true _ _ (t 0) };
     in-table = λ i q. ltb-true _ _ (every-at (b .used) _ (t 1) i q);
     differ = differ;
     rest = λ i q r. same-page (eqb-true _ _ (or-second _ _ (every-at 32 _ (t 3) i r) (le-ltb _ _ q)));
     here = λ i q. and-left _ _ (every-at (b .used) _ (t 4) i q);
     frame-of = λ i q. eqb-true _ _ (and-right (valid (entry s main (pageIn b i))) _ (every-at (b .used) _ (t 4) i q));
     only = λ x q v. found b (b .used) x (or-second _ _ (every-at (s .ptl) _ (t 5) (x .0) q) (ap not v));
-    hand-still = λ q. eqb-true _ _ (rw (lt-ltb (b .used) (s .frames) q) at (t 6));
-    hand-most = hand (decLt (b .used) (s .frames));
   }
     where
       t : (i : ℕ) → getD (bookTests s b main) i true ≡ true
@@ -110,9 +107,18 @@ module _ (s : Shape) (b : FrameBook) (main : List ℕ) where
           pick (no a) (yes c) = absurd (differs j i c q (sym d))
           pick (no a) (no c) = omega (arith, a, c)
 
-      hand : Dec (b .used < s .frames) → b .hand < s .frames
-      hand (yes q) = omega (arith, eqb-true (b .hand) 0 (rw (lt-ltb (b .used) (s .frames) q) at (t 6)))
-      hand (no q) = ltb-true _ _ (rw (le-ltb (b .used) (s .frames) (omega (arith, q))) at (t 6))
+  pub hand-of : 2 ≤ s .frames → passes (bookTests s b main) ≡ true → Hand (s .frames) b
+  hand-of two e = record {
+    still = λ q. eqb-true _ _ (rw (lt-ltb (b .used) (s .frames) q) at t);
+    most = most (decLt (b .used) (s .frames));
+  }
+    where
+      t : handRight (s .frames) b ≡ true
+      t = pass (bookTests s b main) e 6
+
+      most : Dec (b .used < s .frames) → b .hand < s .frames
+      most (yes q) = omega (arith, eqb-true (b .hand) 0 (rw (lt-ltb (b .used) (s .frames) q) at t))
+      most (no q) = ltb-true _ _ (rw (le-ltb (b .used) (s .frames) (omega (arith, q))) at t)
 
   module _ (g : Seated s b main) where
     -- a page is resident exactly where its entry is valid
@@ -127,9 +133,9 @@ module _ (s : Shape) (b : FrameBook) (main : List ℕ) where
             r ∙ sym (g .here (t .0) (t .1)) ∙ ap (λ z. valid (entry s main z)) (t .2)
         pick false v false r = r ∙ sym v
 
-    pub tests-of : passes (bookTests s b main) ≡ true
-    tests-of =
-        pass-more _ _ (le-leb _ _ (g .used-most))
+    pub tests-of : Hand (s .frames) b → passes (bookTests s b main) ≡ true
+    tests-of h =
+        pass-more _ _ (le-leb _ _ (g .booked .used-most))
         (pass-more _ _ (every-from (b .used) _ (λ i q. lt-ltb _ _ (g .in-table i q)))
         (pass-more _ _ (every-from (b .used) _ (λ j r. every-from j _ (λ i q. ap not (ne-eqb _ _ (λ d. differs i j q r (same-page d))))))
         (pass-more _ _ (every-from 32 _ (λ i q. rest i q (decLt i (b .used))))
@@ -140,18 +146,18 @@ module _ (s : Shape) (b : FrameBook) (main : List ℕ) where
         differs : (i j : ℕ) → i < j → j < b .used → pageIn b i ≡ pageIn b j → ⊥
         differs i j q r d = omega (arith, g .differ i j (omega arith) r d)
 
-        rest : (i : ℕ) → i < 32 → Dec (i < b .used) → (ltb i (b .used) || eqb (pageIn b i .0) 0) ≡ true
+        rest : (i : ℕ) → i < 32 → Dec (i < b .used) → zeroFrom b i ≡ true
         rest i q (yes d) = or-left _ _ (lt-ltb _ _ d)
         rest i q (no d) = or-right (ltb i (b .used)) _ (eq-eqb _ _ (ap (λ (x : VirtualPage). x .0) (g .rest i (omega (arith, d)) q)))
 
         only : (x : ℕ) → x < s .ptl → (c : Bool) → valid (entry s main (virtual x)) ≡ c
-            → (not (valid (entry s main (virtual x))) || resident b (virtual x)) ≡ true
+            → entryRight s b main (virtual x) ≡ true
         only x q true v = or-right (not (valid (entry s main (virtual x)))) _ (resident-valid (virtual x) q ∙ v)
         only x q false v = or-left _ _ (ap not v)
 
-        hand : Dec (b .used < s .frames) → (if free (s .frames) b then eqb (b .hand) 0 else ltb (b .hand) (s .frames)) ≡ true
-        hand (yes q) = rw (lt-ltb (b .used) (s .frames) q) (eq-eqb _ _ (g .hand-still q))
-        hand (no q) = rw (le-ltb (b .used) (s .frames) (omega (arith, q))) (lt-ltb _ _ (g .hand-most))
+        hand : Dec (b .used < s .frames) → handRight (s .frames) b ≡ true
+        hand (yes q) = rw (lt-ltb (b .used) (s .frames) q) (eq-eqb _ _ (h .still q))
+        hand (no q) = rw (le-ltb (b .used) (s .frames) (omega (arith, q))) (lt-ltb _ _ (h .most))
 
 -- ---- the whole machine
 pub good-of : (p : State) → length (p .machine .book .held) ≡ 32 → fits (p .machine .shape) (p .memory) ≡ true
@@ -160,11 +166,12 @@ unfolding sound passes
 good-of p len f e =
     let shaped : Fit (p .machine .shape) (length (p .memory .main)) × SwapLong (p .machine .shape) (length (p .memory .swap))
     = fit-of (p .machine .shape) (p .memory) f in
+    let t : passes (bookTests (p .machine .shape) (p .machine .book) (p .memory .main)) ≡ true = and-right (eqb (getD (p .machine .gpr) 0 0) 0) _ e in
     record {
       fit = shaped .0;
       whole = shaped .1;
-      seated = seated-of (p .machine .shape) (p .machine .book) (p .memory .main) (shaped .0 .frames-least) len
-          (and-right (eqb (getD (p .machine .gpr) 0 0) 0) _ e);
+      seated = seated-of (p .machine .shape) (p .machine .book) (p .memory .main) len t;
+      hand = hand-of (p .machine .shape) (p .machine .book) (p .memory .main) (shaped .0 .frames-least) t;
       zero = eqb-true _ _ (and-left _ _ e);
     }
 
@@ -172,5 +179,5 @@ pub sound-of : (p : State) → Good p → (fits (p .machine .shape) (p .memory) 
 unfolding sound
 sound-of p g = (
   fits-of (p .machine .shape) (p .memory) (g .fit) (g .whole),
-  pass-more _ _ (eq-eqb _ _ (g .zero)) (tests-of (p .machine .shape) (p .machine .book) (p .memory .main) (g .seated)),
+  pass-more _ _ (eq-eqb _ _ (g .zero)) (tests-of (p .machine .shape) (p .machine .book) (p .memory .main) (g .seated) (g .hand)),
 )

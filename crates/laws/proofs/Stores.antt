@@ -34,7 +34,7 @@ stored m width i v = record { main = store (size width) (m .main) i v; swap = m 
 module _ (s : Shape) (main : List ℕ) (h : Safe s main) (width : Width) (va i v : ℕ)
     (a : aligned (size width) va ≡ true) (q : translate s main true va ≡ At i) where
   -- the store stays in its frame
-  pub in-frame : (4096 * s .abase ≤ i) × (i + size width ≤ 4096 * (s .abase + s .frames))
+  in-frame : (4096 * s .abase ≤ i) × (i + size width ≤ 4096 * (s .abase + s .frames))
   in-frame =
       let t : Through s main true va i = through s main true va i q in
       let f : (s .abase ≤ ppx (entry s main (pageOf va)) .0) × (ppx (entry s main (pageOf va)) .0 < s .abase + s .frames)

@@ -4,7 +4,6 @@ use mathlib.Core.Path.{_≡_, sym, ap, subst, _∙_}
 use mathlib.Core.Bool.{true, false, true≢false}
 use mathlib.Core.List.{List}
 use Prim.Native.Nat.{ℕ, zero, suc, _≤_}
-use native.Mathlib.Omega.{arith}
 use Rattle.model.specs.Bytes.{number}
 use Rattle.model.specs.Pages.{pageOf}
 use Rattle.model.specs.Table.{entry, valid}
@@ -18,8 +17,8 @@ use Rattle.model.specs.declared.Shape.{Shape}
 use Rattle.model.specs.declared.VirtualPage.{VirtualPage}
 use Rattle.model.specs.declared.Outcome.the-variants.{Missing}
 use Rattle.laws.specs.Good.{Good}
-use Rattle.laws.proofs.Seats.{frame-full}
-use Rattle.laws.proofs.Load.{Loaded, loads, load-good, load-flat}
+use Rattle.laws.proofs.Seats.{frame-used}
+use Rattle.laws.proofs.Load.{PageLoaded, loads, load-good, load-flat}
 use Rattle.laws.proofs.Agree.{address}
 use Rattle.laws.proofs.Attempt.{Misses, for-code, for-data, missed, missing}
 
@@ -31,9 +30,9 @@ module _ (p : State) (g : Good p) (va : ℕ) (e : try p .outcome ≡ Missing va)
   pub miss-flat : flat (load p (pageOf va)) ≡ flat p
   miss-flat = load-flat p g (pageOf va) (missing p va e .0) (missing p va e .1)
 
-  pub miss-loaded : Loaded (p .machine .shape) (p .machine .book) (p .memory) (pageOf va)
+  pub miss-loaded : PageLoaded (p .machine .shape) (p .machine .book) (p .memory) (pageOf va)
   miss-loaded =
-      loads (p .machine .shape) (p .machine .book) (p .memory) (g .fit) (g .whole) (g .seated) (pageOf va) (missing p va e .0) (missing p va e .1)
+      loads (p .machine .shape) (p .machine .book) (p .memory) (g .fit) (g .whole) (g .seated) (g .hand) (pageOf va) (missing p va e .0) (missing p va e .1)
 
 -- ---- the two addresses that an instruction asks for, by its flat machine
 data Asks (f : Flat) (va : ℕ) : Type 0 where
@@ -69,10 +68,10 @@ module _ (p : State) (g : Good p) (u : ℕ) (e : try p .outcome ≡ Missing u) (
   g₁ : Good p₁
   g₁ = miss-good p g u e
 
-  l₁ : Loaded (p .machine .shape) (p .machine .book) (p .memory) (pageOf u)
+  l₁ : PageLoaded (p .machine .shape) (p .machine .book) (p .memory) (pageOf u)
   l₁ = miss-loaded p g u e
 
-  l₂ : Loaded (p₁ .machine .shape) (p₁ .machine .book) (p₁ .memory) (pageOf v)
+  l₂ : PageLoaded (p₁ .machine .shape) (p₁ .machine .book) (p₁ .memory) (pageOf v)
   l₂ = miss-loaded p₁ g₁ v e′
 
   -- the two pages are two
@@ -81,12 +80,12 @@ module _ (p : State) (g : Good p) (u : ℕ) (e : try p .outcome ≡ Missing u) (
   differs = other (p .machine .shape) (p₁ .memory .main) (pageOf u) (pageOf v) (l₁ .here) (missing p₁ v e′ .1)
 
   -- "the page loaded last is never the victim"
-  survives : p₁ .machine .shape .frames ≤ p₁ .machine .book .used → pageOf u ≡ pageIn (p₁ .machine .book) (p₁ .machine .book .hand) → ⊥
+  survives : p₁ .machine .shape .frames ≤ p₁ .machine .book .used
+      → pageOf u ≡ pageIn (p₁ .machine .book) (frame (p₁ .machine .shape .frames) (p₁ .machine .book)) → ⊥
   unfolding load
   survives full q =
-      l₁ .moves (frame-full (p .machine .shape .frames) (p₁ .machine .book) full
-      ∙ g₁ .seated .differ (p₁ .machine .book .hand) (frame (p .machine .shape .frames) (p .machine .book))
-      (omega (arith, full, g₁ .seated .hand-most)) (l₁ .in-use) (sym q ∙ sym (l₁ .put)))
+      l₁ .moves (g₁ .seated .differ (frame (p .machine .shape .frames) (p₁ .machine .book)) (frame (p .machine .shape .frames) (p .machine .book))
+      (frame-used (p .machine .shape .frames) (p₁ .machine .book) (g₁ .hand) full) (l₁ .in-use) (sym q ∙ sym (l₁ .put)))
 
   stays : valid (entry (p .machine .shape) (load p₁ (pageOf v) .memory .main) (pageOf u)) ≡ true
   unfolding load

@@ -1,11 +1,10 @@
 -- What loading accepts, as named facts: an image that is known (`Known`) and well formed (`Formed`), and lent memories that it fits
--- (`Roomy`); all three are `Accepted`. The tests of the model pass exactly where these hold: proofs/Formed. And the entry it makes.
+-- (`Roomy`); all three are `Accepted`. The tests of the model pass exactly where these hold: proofs/Formed.
 use mathlib.Core.Path.{_≡_}
 use mathlib.Core.Logic.{_⊎_}
 use mathlib.Core.List.{List}
 use Prim.Native.Nat.{ℕ, _+_, _*_, _/_, _%_, _<_, _≤_}
 use lib.ListN.{length, getD}
-use Rattle.model.specs.Words.{low, field}
 use Rattle.model.specs.State.{Memory}
 use Rattle.model.specs.Image.{trailer, ptlOf, startOf, framesOf, rightsOf, meant}
 
@@ -43,7 +42,3 @@ pub record Accepted (l : List ℕ) (m : Memory) : Type 0 where
   pub known : Known l
   pub formed : Formed l
   pub roomy : Roomy (framesOf l) (ptlOf l) (length (m .main)) (length (m .swap))
-
--- "the invalid entries (ppx 0, r and w from the rights)": the one by a rights byte
-abbrev pub invalidEntry : ℕ → ℕ
-invalidEntry b = 4 * low 1 b + 2 * field 1 1 b

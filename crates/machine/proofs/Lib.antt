@@ -1,4 +1,3 @@
-pub mod Verdicts
+-- Laws that the proofs of the functions cite.
 pub mod Length
 pub mod Outcomes
-pub mod Runs

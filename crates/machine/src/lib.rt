@@ -1,12 +1,10 @@
 // The calls that a host makes on a machine: run, host read, host write, page view and reply. They ask nothing of their caller: each
-// tests what it is handed and names its complete outcome.
-pub mod verdict;
-
+// takes the verdict on what it is handed, acts where nothing is refused, and names its complete outcome.
 use host::transfer;
+use host::verdict;
 use host::view;
 use model::Handed;
 use model::Machine;
-use model::Refusal;
 use model::RunAnswer;
 use model::RunResult;
 use model::Verdict;
@@ -16,7 +14,7 @@ ghost use Prim.Native.Nat.{_≤_};
 ghost use Rattle.model.specs.State.{state};
 ghost use Rattle.model.specs.Run.{run, instruction, uncounted};
 ghost use Rattle.laws.specs.Good.{Good};
-ghost use Rattle.model.specs.Answers.{verdictNumber};
+ghost use Rattle.model.specs.Answers.{verdictNumbers};
 ghost use Rattle.model.specs.Calls as calls;
 
 // "Run returns the stop, a detail, instructions finished, pages loaded."
@@ -64,7 +62,8 @@ fn run_sound(m: Machine, main: &mut [u8], swap: &mut [u8], limit: u32) -> RunRes
 
 // "Host read fills a lent buffer".
 pub fn host_read(m: Machine, main: &[u8], swap: &[u8], va: u32, into: &mut [u8]) -> Verdict
-    ensures { λ r. ⌜ record { refused = verdictNumber r; buffer = now (into .exit) } ≡ calls.readCall (state m (now (main .entry)) (now (swap .entry))) va (now (into .entry)) ⌝ }
+    ensures { λ r. ⌜ record { verdict = verdictNumbers r; buffer = now (into .exit) }
+        ≡ calls.readCall (state m (now (main .entry)) (now (swap .entry))) va (now (into .entry)) ⌝ }
 {
     let s = m.shape;
     match verdict::host_verdict(m, main, swap, false, va, into.len()) {
@@ -78,7 +77,8 @@ pub fn host_read(m: Machine, main: &[u8], swap: &[u8], va: u32, into: &mut [u8])
 
 // "host write takes one".
 pub fn host_write(m: Machine, main: &mut [u8], swap: &mut [u8], va: u32, from: &[u8]) -> Handed
-    ensures { λ r. ⌜ record { refused = verdictNumber (r .verdict); state = state (r .machine) (now (main .exit)) (now (swap .exit)) } ≡ calls.writeCall (state m (now (main .entry)) (now (swap .entry))) va (now (from .entry)) ⌝ }
+    ensures { λ r. ⌜ record { verdict = verdictNumbers (r .verdict); state = state (r .machine) (now (main .exit)) (now (swap .exit)) }
+        ≡ calls.writeCall (state m (now (main .entry)) (now (swap .entry))) va (now (from .entry)) ⌝ }
 {
     let s = m.shape;
     match verdict::host_verdict(m, main, swap, true, va, from.len()) {
@@ -98,7 +98,7 @@ pub fn host_write(m: Machine, main: &mut [u8], swap: &mut [u8], va: u32, from: &
 
 // The page view in two calls: what it answers, and the part that it hands back.
 pub fn view_answer<'a>(m: Machine, main: &'a [u8], swap: &'a [u8], page: VirtualPage) -> Verdict
-    ensures { λ r. ⌜ verdictNumber r ≡ calls.viewCall (state m (now (main .entry)) (now (swap .entry))) page .refused ⌝ }
+    ensures { λ r. ⌜ verdictNumbers r ≡ calls.viewCall (state m (now (main .entry)) (now (swap .entry))) page .verdict ⌝ }
 {
     verdict::view_verdict(m, main, swap, page)
 }
@@ -116,25 +116,21 @@ pub fn page_view<'a>(m: Machine, main: &'a [u8], swap: &'a [u8], page: VirtualPa
 
 // "Reply sets one of GPR 1 to 31."
 pub fn reply(m: Machine, register: u32, value: u32) -> Handed
-    ensures { λ r. ⌜ record { refused = verdictNumber (r .verdict); machine = r .machine } ≡ calls.replyCall m register value ⌝ }
+    ensures { λ r. ⌜ record { verdict = verdictNumbers (r .verdict); machine = r .machine } ≡ calls.replyCall m register value ⌝ }
 {
-    if register < 1 {
-        return Handed {
+    match verdict::reply_verdict(register) {
+        Verdict::Refused(r) => Handed {
             machine: m,
-            verdict: Verdict::Refused(Refusal::TooMuch),
-        };
-    }
-    if register > 31 {
-        return Handed {
-            machine: m,
-            verdict: Verdict::Refused(Refusal::TooMuch),
-        };
-    }
-    let mut replied = m;
-    let i = register as usize;
-    replied.gpr[i] = value;
-    Handed {
-        machine: replied,
-        verdict: Verdict::Granted,
+            verdict: Verdict::Refused(r),
+        },
+        Verdict::Granted => {
+            let mut replied = m;
+            let i = register as usize;
+            replied.gpr[i] = value;
+            Handed {
+                machine: replied,
+                verdict: Verdict::Granted,
+            }
+        }
     }
 }

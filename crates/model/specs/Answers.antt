@@ -1,7 +1,7 @@
 -- Section "Calls and their refusals": this paper's numbers and values for each case of an answer.
 use Prim.Native.Nat.{ℕ}
 use Rattle.model.specs.declared.Stop.{Stop}
-use Rattle.model.specs.declared.Stop.the-variants.{Limit, Trap, Memory, Misaligned, Instruction}
+use Rattle.model.specs.declared.Stop.the-variants.{Limit, Trap, IllegalMemory, Misaligned, IllegalInstruction}
 use Rattle.model.specs.declared.Refusal.{Refusal}
 use Rattle.model.specs.declared.Refusal.the-variants.{Bound, Unsound, Rights, TooMuch, Edition, Format, Room}
 use Rattle.model.specs.declared.Verdict.{Verdict}
@@ -15,17 +15,17 @@ use Rattle.model.specs.declared.ImageAnswer.the-variants.{Image, NotImag
 abbrev pub stopNumber : Stop → ℕ
 stopNumber Limit = 0
 stopNumber (Trap n) = 1
-stopNumber (Memory va) = 2
+stopNumber (IllegalMemory va) = 2
 stopNumber (Misaligned va) = 3
-stopNumber (Instruction w) = 4
+stopNumber (IllegalInstruction w) = 4
 
 -- "detail 0", "its number", "the virtual address", "the word"
 abbrev pub stopDetail : Stop → ℕ
 stopDetail Limit = 0
 stopDetail (Trap n) = n
-stopDetail (Memory va) = va
+stopDetail (IllegalMemory va) = va
 stopDetail (Misaligned va) = va
-stopDetail (Instruction w) = w
+stopDetail (IllegalInstruction w) = w
 
 -- the table of refusals, row by row
 abbrev pub refusalNumber : Refusal → ℕ
@@ -37,14 +37,17 @@ refusalNumber Edition = 5
 refusalNumber Format = 6
 refusalNumber Room = 7
 
--- 0 where nothing is refused
-abbrev pub verdictNumber : Verdict → ℕ
-verdictNumber Granted = 0
-verdictNumber (Refused r) = refusalNumber r
+-- what every call answers first: the number of its refusal, 0 where nothing is refused. Only `verdictNumbers` makes one.
+pub record VerdictNumbers : Type 0 where
+  pub refused : ℕ
+
+abbrev pub verdictNumbers : Verdict → VerdictNumbers
+verdictNumbers Granted = record { refused = 0 }
+verdictNumbers (Refused r) = record { refused = refusalNumber r }
 
 -- "Run returns the stop, a detail, instructions finished, pages loaded."
 pub record RunNumbers : Type 0 where
-  pub refused : ℕ
+  pub verdict : VerdictNumbers
   pub stop : ℕ
   pub detail : ℕ
   pub finished : ℕ
@@ -53,16 +56,16 @@ pub record RunNumbers : Type 0 where
 -- "A refusal returns its number, zero for every other number"
 abbrev pub runNumbers : RunAnswer → RunNumbers
 runNumbers (Ran s finished loads) =
-    record { refused = 0; stop = stopNumber s; detail = stopDetail s; finished = finished; loads = loads }
-runNumbers (NotRun r) = record { refused = refusalNumber r; stop = 0; detail = 0; finished = 0; loads = 0 }
+    record { verdict = verdictNumbers Granted; stop = stopNumber s; detail = stopDetail s; finished = finished; loads = loads }
+runNumbers (NotRun r) = record { verdict = verdictNumbers (Refused r); stop = 0; detail = 0; finished = 0; loads = 0 }
 
 -- "with them come ptl, start and frames as written"
 pub record ImageNumbers : Type 0 where
-  pub refused : ℕ
+  pub verdict : VerdictNumbers
   pub ptl : ℕ
   pub start : ℕ
   pub frames : ℕ
 
 abbrev pub imageNumbers : ImageAnswer → ImageNumbers
-imageNumbers (Image ptl start frames) = record { refused = 0; ptl = ptl; start = start; frames = frames }
-imageNumbers (NotImage r) = record { refused = refusalNumber r; ptl = 0; start = 0; frames = 0 }
+imageNumbers (Image ptl start frames) = record { verdict = verdictNumbers Granted; ptl = ptl; start = start; frames = frames }
+imageNumbers (NotImage r) = record { verdict = verdictNumbers (Refused r); ptl = 0; start = 0; frames = 0 }

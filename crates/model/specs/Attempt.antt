@@ -13,7 +13,7 @@ use Rattle.model.specs.declared.Access.the-variants.{Illegal, Fault, At}
 use Rattle.model.specs.declared.Plan.{Plan}
 use Rattle.model.specs.declared.Plan.the-variants.{Unknown, Set, LoadByte, LoadHalf, LoadWord, StoreByte, StoreHalf, StoreWord, Trapping}
 use Rattle.model.specs.declared.Stop.{Stop}
-use Rattle.model.specs.declared.Stop.the-variants.{Memory, Misaligned, Instruction}
+use Rattle.model.specs.declared.Stop.the-variants.{IllegalMemory, Misaligned, IllegalInstruction}
 use Rattle.model.specs.declared.Outcome.{Outcome}
 use Rattle.model.specs.declared.Outcome.the-variants.{Done, Trapped, Missing, Stopped}
 
@@ -42,48 +42,51 @@ module _ (access : Bool → ℕ → Access) (gpr bytes : List ℕ) (pcs : Pcs) w
   abbrev pub stopped : Stop → Tried
   stopped s = tried (Stopped s) gpr bytes
 
-  -- "DPC becomes PC', PC' becomes the target or PC'+4."
-  abbrev pub to : ℕ → Pcs
-  to target = record { dpc = pcs .next; next = target }
+  -- what an access to va comes to: "illegal: stop 2; fault: load, begin anew", or what is done at its place
+  abbrev pub accessed : Access → ℕ → (ℕ → Tried) → Tried
+  accessed Illegal va done = stopped (IllegalMemory va)
+  accessed Fault va done = tried (Missing va) gpr bytes
+  accessed (At i) va done = done i
 
-  abbrev pub on : Pcs
-  on = to (onward (pcs .next))
-
-  -- an access: illegal, a fault, or granted at a place
-  abbrev pub go : Access → ℕ → (ℕ → Tried) → Tried
-  go Illegal va granted = stopped (Memory va)
-  go Fault va granted = tried (Missing va) gpr bytes
-  go (At i) va granted = granted i
-
-  -- the access of a load or store
+  -- an access of so many bytes: "address not a multiple of its width: stop 3"
   unfoldable pub transfer : Bool → Width → ℕ → (ℕ → Tried) → Tried
-  transfer writing width va granted = if aligned (size width) va then go (access writing va) va granted else stopped (Misaligned va)
+  transfer writing width va done =
+      if aligned (size width) va then accessed (access writing va) va done
+      else stopped (Misaligned va)
 
-  -- what a load reads, "lb and lh sign extended"
-  abbrev pub fetched : Width → Bool → ℕ → ℕ
-  fetched width signed i = if signed then extend (8 * size width) (number (size width) bytes i) else number (size width) bytes i
+  -- ---- step 5: "Carry out. DPC becomes PC', PC' becomes the target or PC'+4."
+  abbrev pub pcsTo : ℕ → Pcs
+  pcsTo target = record { dpc = pcs .next; next = target }
 
-  unfoldable pub loading : Width → Bool → ℕ → ℕ → Tried
-  loading width signed rd va = transfer false width va λ i. tried (Done on) (written gpr rd (fetched width signed i)) bytes
+  abbrev pub pcsOnward : Pcs
+  pcsOnward = pcsTo (onward (pcs .next))
 
-  unfoldable pub storing : Width → ℕ → ℕ → Tried
-  storing width va v = transfer true width va λ i. tried (Done on) gpr (store (size width) bytes i v)
+  -- what a load reads at i, "lb and lh sign extended"
+  abbrev pub valueAt : Width → Bool → ℕ → ℕ
+  valueAt width signed i = if signed then extend (8 * size width) (number (size width) bytes i) else number (size width) bytes i
 
-  -- steps 3 to 5: the word w, which asks for a plan
+  -- ---- step 4, and step 5 where its access goes through
+  unfoldable pub obeyLoad : Width → Bool → ℕ → ℕ → Tried
+  obeyLoad width signed rd va = transfer false width va λ i. tried (Done pcsOnward) (written gpr rd (valueAt width signed i)) bytes
+
+  unfoldable pub obeyStore : Width → ℕ → ℕ → Tried
+  obeyStore width va v = transfer true width va λ i. tried (Done pcsOnward) gpr (store (size width) bytes i v)
+
+  -- the word w, which asks for a plan
   unfoldable pub obey : ℕ → Plan → Tried
-  obey w Unknown = stopped (Instruction w)
-  obey w (Set rd v target) = tried (Done (to target)) (written gpr rd v) bytes
-  obey w (LoadByte signed rd va) = loading byte signed rd va
-  obey w (LoadHalf signed rd va) = loading half signed rd va
-  obey w (LoadWord rd va) = loading word false rd va
-  obey w (StoreByte va v) = storing byte va v
-  obey w (StoreHalf va v) = storing half va v
-  obey w (StoreWord va v) = storing word va v
-  obey w (Trapping n) = tried (Trapped on n) gpr bytes
+  -- step 3: "Unknown or privileged word: stop 4."
+  obey w Unknown = stopped (IllegalInstruction w)
+  -- step 4: "Load or store"
+  obey w (LoadByte signed rd va) = obeyLoad byte signed rd va
+  obey w (LoadHalf signed rd va) = obeyLoad half signed rd va
+  obey w (LoadWord rd va) = obeyLoad word false rd va
+  obey w (StoreByte va v) = obeyStore byte va v
+  obey w (StoreHalf va v) = obeyStore half va v
+  obey w (StoreWord va v) = obeyStore word va v
+  -- step 5: "Carry out.", "A trap does this too and is stop 1."
+  obey w (Set rd v target) = tried (Done (pcsTo target)) (written gpr rd v) bytes
+  obey w (Trapping n) = tried (Trapped pcsOnward n) gpr bytes
 
-  -- steps 1 and 2: DPC's alignment, the fetch
+  -- step 1: "DPC not a multiple of 4: stop 3.", step 2: "Fetch illegal: stop 2. Fetch faults: load the page, begin the attempt anew."
   unfoldable pub attempt : Tried
-  attempt =
-      if aligned 4 (pcs .dpc)
-      then go (access false (pcs .dpc)) (pcs .dpc) (λ i. obey (number 4 bytes i) (plan gpr (pcs .next) (number 4 bytes i)))
-      else stopped (Misaligned (pcs .dpc))
+  attempt = transfer false word (pcs .dpc) λ i. obey (number 4 bytes i) (plan gpr (pcs .next) (number 4 bytes i))

@@ -10,11 +10,9 @@ use Rattle.model.specs.Pages.{pageOf, offset, mainAt, swapOf, swapAt, ma
 use Rattle.model.specs.Table.{entry, ppx, valid}
 use Rattle.model.specs.State.{Memory, State}
 use Rattle.model.specs.Sound.{fits, sound}
-use Rattle.model.specs.Translate.{has, translate, flatByte}
+use Rattle.model.specs.Translate.{has, translate, legal, flatByte}
 use Rattle.model.specs.Run.{Course, Counted, uncounted, run, instruction}
-use Rattle.model.specs.Answers.{verdictNumber, RunNumbers, runNumbers}
-use Rattle.model.specs.declared.Access.{Access}
-use Rattle.model.specs.declared.Access.the-variants.{Illegal, Fault, At}
+use Rattle.model.specs.Answers.{VerdictNumbers, verdictNumbers, RunNumbers, runNumbers}
 use Rattle.model.specs.declared.VirtualPage.{VirtualPage}
 use Rattle.model.specs.declared.Shape.{Shape}
 use Rattle.model.specs.declared.Machine.{Machine}
@@ -58,31 +56,28 @@ unfoldable pub runCall : State → ℕ → RunOutcome
 runCall p n = runBy (runVerdict p n) p n
 
 -- ---- the host: "Host transfer: 0 to 256 bytes"; "all pages need r, or w"
-abbrev pub legal : Access → Bool
-legal Illegal = false
-legal Fault = true
-legal (At i) = true
-
 -- each of the n bytes from va on lies in a page with the right
 unfoldable pub permitted : Bool → Shape → List ℕ → ℕ → ℕ → Bool
 permitted writing s main va n = everyBelow n (λ i. legal (translate s main writing (va + i)))
 
+-- what a machine that is itself not refused says of a transfer
+abbrev pub transferVerdict : Bool → Shape → List ℕ → ℕ → ℕ → Verdict
+transferVerdict writing s main va n = unless (leb n 256) TooMuch (unless (permitted writing s main va n) Rights Granted)
+
 unfoldable pub hostVerdict : Bool → State → ℕ → ℕ → Verdict
-hostVerdict writing p va n =
-    machineVerdict p
-    (unless (leb n 256) TooMuch (unless (permitted writing (p .machine .shape) (p .memory .main) va n) Rights Granted))
+hostVerdict writing p va n = machineVerdict p (transferVerdict writing (p .machine .shape) (p .memory .main) va n)
 
 -- "Host read fills a lent buffer": the n bytes of the flat memory from va on
 unfoldable pub bytesFrom : Shape → Memory → ℕ → ℕ → List ℕ
 bytesFrom s m va n = listBelow n (λ i. flatByte s m (va + i))
 
 pub record ReadOutcome : Type 0 where
-  pub refused : ℕ
+  pub verdict : VerdictNumbers
   pub buffer : List ℕ
 
 abbrev pub readBy : Verdict → State → ℕ → List ℕ → ReadOutcome
-readBy Granted p va buffer = record { refused = 0; buffer = bytesFrom (p .machine .shape) (p .memory) va (length buffer) }
-readBy (Refused r) p va buffer = record { refused = verdictNumber (Refused r); buffer = buffer }
+readBy Granted p va buffer = record { verdict = verdictNumbers Granted; buffer = bytesFrom (p .machine .shape) (p .memory) va (length buffer) }
+readBy (Refused r) p va buffer = record { verdict = verdictNumbers (Refused r); buffer = buffer }
 
 unfoldable pub readCall : State → ℕ → List ℕ → ReadOutcome
 readCall p va buffer = readBy (hostVerdict false p va (length buffer)) p va buffer
@@ -99,15 +94,15 @@ bytesTo s m va [] = m
 bytesTo s m va (x ∷ xs) = bytesTo s (poke s m va x) (suc va) xs
 
 pub record StateOutcome : Type 0 where
-  pub refused : ℕ
+  pub verdict : VerdictNumbers
   pub state : State
 
 abbrev pub writeBy : Verdict → State → ℕ → List ℕ → StateOutcome
 writeBy Granted p va bytes = record {
-  refused = 0;
+  verdict = verdictNumbers Granted;
   state = record { machine = p .machine; memory = bytesTo (p .machine .shape) (p .memory) va bytes };
 }
-writeBy (Refused r) p va bytes = record { refused = verdictNumber (Refused r); state = p }
+writeBy (Refused r) p va bytes = record { verdict = verdictNumbers (Refused r); state = p }
 
 unfoldable pub writeCall : State → ℕ → List ℕ → StateOutcome
 writeCall p va bytes = writeBy (hostVerdict true p va (length bytes)) p va bytes
@@ -126,12 +121,12 @@ pageBytes s m x =
     if valid (entry s (m .main) x) then mainPage (m .main) (ppx (entry s (m .main) x)) else swapPage (m .swap) (swapOf s x)
 
 pub record ViewOutcome : Type 0 where
-  pub refused : ℕ
+  pub verdict : VerdictNumbers
   pub part : List ℕ
 
 abbrev pub viewBy : Verdict → State → VirtualPage → ViewOutcome
-viewBy Granted p x = record { refused = 0; part = pageBytes (p .machine .shape) (p .memory) x }
-viewBy (Refused r) p x = record { refused = verdictNumber (Refused r); part = [] }
+viewBy Granted p x = record { verdict = verdictNumbers Granted; part = pageBytes (p .machine .shape) (p .memory) x }
+viewBy (Refused r) p x = record { verdict = verdictNumbers (Refused r); part = [] }
 
 unfoldable pub viewCall : State → VirtualPage → ViewOutcome
 viewCall p x = viewBy (viewVerdict p x) p x
@@ -141,15 +136,15 @@ unfoldable pub replyVerdict : ℕ → Verdict
 replyVerdict i = unless (leb 1 i && leb i 31) TooMuch Granted
 
 pub record ReplyOutcome : Type 0 where
-  pub refused : ℕ
+  pub verdict : VerdictNumbers
   pub machine : Machine
 
 abbrev pub replyBy : Verdict → Machine → ℕ → ℕ → ReplyOutcome
 replyBy Granted m i v = record {
-  refused = 0;
+  verdict = verdictNumbers Granted;
   machine = record { shape = m .shape; book = m .book; gpr = set (m .gpr) i v; pcs = m .pcs };
 }
-replyBy (Refused r) m i v = record { refused = verdictNumber (Refused r); machine = m }
+replyBy (Refused r) m i v = record { verdict = verdictNumbers (Refused r); machine = m }
 
 unfoldable pub replyCall : Machine → ℕ → ℕ → ReplyOutcome
 replyCall m i v = replyBy (replyVerdict i) m i v

@@ -21,4 +21,4 @@ everyBelow (suc n) f = everyBelow n f && f n
 -- the list f 0, f 1, .. up to f (n - 1)
 unfoldable pub listBelow : ℕ → (ℕ → ℕ) → List ℕ
 listBelow zero f = []
-listBelow (suc n) f = let h = f 0 in let t = listBelow n (λ i. f (suc i)) in h ∷ t
+listBelow (suc n) f = f 0 ∷ listBelow n (λ i. f (suc i))

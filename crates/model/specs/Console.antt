@@ -4,7 +4,7 @@ use Prim.Native.Nat.{ℕ, zero, suc, _+_, _*_, _/_, _%_}
 use lib.Dec.{eqb, leb, ltb}
 use lib.ListN.{length, replicate}
 use Rattle.model.specs.Choice.{if_then_else_}
-use Rattle.model.specs.Answers.{verdictNumber, RunNumbers}
+use Rattle.model.specs.Answers.{refusalNumber, VerdictNumbers, RunNumbers}
 use Rattle.model.specs.Calls.{unless, RunOutcome, runCall, StateOutcome}
 use Rattle.model.specs.Image.{ptlOf, imageVerdict, loadCall}
 use Rattle.model.specs.declared.Refusal.the-variants.{Room}
@@ -25,19 +25,19 @@ newline = 10 ∷ []
 
 -- ---- the words of the lines
 abbrev pub stopWord : List ℕ
-stopWord = 115 ∷ 116 ∷ 111 ∷ 112 ∷ []
+stopWord = 115 ∷ 116 ∷ 111 ∷ 112 ∷ []  -- s t o p
 
 abbrev pub finishedWord : List ℕ
-finishedWord = 102 ∷ 105 ∷ 110 ∷ 105 ∷ 115 ∷ 104 ∷ 101 ∷ 100 ∷ []
+finishedWord = 102 ∷ 105 ∷ 110 ∷ 105 ∷ 115 ∷ 104 ∷ 101 ∷ 100 ∷ []  -- f i n i s h e d
 
 abbrev pub loadsWord : List ℕ
-loadsWord = 108 ∷ 111 ∷ 97 ∷ 100 ∷ 115 ∷ []
+loadsWord = 108 ∷ 111 ∷ 97 ∷ 100 ∷ 115 ∷ []  -- l o a d s
 
 abbrev pub dpcWord : List ℕ
-dpcWord = 100 ∷ 112 ∷ 99 ∷ []
+dpcWord = 100 ∷ 112 ∷ 99 ∷ []  -- d p c
 
 abbrev pub refusedWord : List ℕ
-refusedWord = 114 ∷ 101 ∷ 102 ∷ 117 ∷ 115 ∷ 101 ∷ 100 ∷ []
+refusedWord = 114 ∷ 101 ∷ 102 ∷ 117 ∷ 115 ∷ 101 ∷ 100 ∷ []  -- r e f u s e d
 
 -- "the one line `refused` with the number"
 abbrev pub refusedLine : ℕ → List ℕ
@@ -51,21 +51,24 @@ fourLines r dpc =
     ++ (loadsWord ++ (spaced (r .loads) ++ (newline
     ++ (dpcWord ++ (spaced dpc ++ newline)))))))))))
 
+-- what follows where a call is not refused, or its refusal
+abbrev pub orRefused : VerdictNumbers → List ℕ → List ℕ
+orRefused v lines = if eqb (v .refused) 0 then lines else refusedLine (v .refused)
+
 abbrev pub runLines : RunOutcome → List ℕ
-runLines r =
-    if eqb (r .numbers .refused) 0 then fourLines (r .numbers) (r .state .machine .pcs .dpc) else refusedLine (r .numbers .refused)
+runLines r = orRefused (r .numbers .verdict) (fourLines (r .numbers) (r .state .machine .pcs .dpc))
 
 -- "runs at most 1000 instructions"
 abbrev pub loadedLines : StateOutcome → List ℕ
-loadedLines l = if eqb (l .refused) 0 then runLines (runCall (l .state) 1000) else refusedLine (l .refused)
+loadedLines l = orRefused (l .verdict) (runLines (runCall (l .state) 1000))
 
 -- "uses five main pages": what stood in the lent bytes before does not matter, loading writes them all
 abbrev pub imageLines : Verdict → List ℕ → List ℕ
 imageLines Granted l = loadedLines (loadCall l (record { main = replicate 20480 0; swap = replicate (4096 * ptlOf l) 0 }))
-imageLines (Refused r) l = refusedLine (verdictNumber (Refused r))
+imageLines (Refused r) l = refusedLine (refusalNumber r)
 
 -- "A longer input prints `refused 7` by its length alone. Otherwise a ptl above 4 prints `refused 7`, unless 5 or 6 applies."
 unfoldable pub consoleText : List ℕ → List ℕ
 consoleText input =
     if leb (length input) 17436 then imageLines (imageVerdict input (unless (leb (ptlOf input) 4) Room Granted)) input
-    else refusedLine 7
+    else refusedLine (refusalNumber Room)

@@ -12,7 +12,7 @@ use Rattle.model.specs.Table.{entry}
 use Rattle.model.specs.State.{Memory, State}
 use Rattle.model.specs.Translate.{flatByte}
 use Rattle.model.specs.Attempt.{Tried, attempt}
-use Rattle.model.specs.Run.{Step, stops, answer}
+use Rattle.model.specs.Run.{Step, stops, answered}
 use Rattle.model.specs.declared.Shape.{Shape}
 use Rattle.model.specs.declared.Pcs.{Pcs}
 use Rattle.model.specs.declared.Access.{Access}
@@ -43,7 +43,7 @@ abbrev pub flatPut : Flat → Pcs → List ℕ → List ℕ → Flat
 flatPut f pcs gpr bytes = record { gpr = gpr; pcs = pcs; bytes = bytes; rights = f .rights }
 
 unfoldable pub flatInstruction : Flat → Step Flat
-flatInstruction f = answer f (flatPut f) (λ va. stops (stop.Memory va) 0 f) (flatTry f)
+flatInstruction f = answered f (flatPut f) (λ va. stops (stop.IllegalMemory va) 0 f) (flatTry f)
 
 -- ---- the flat machine that a paged machine stands for
 -- r and w of an entry, as a rights byte

@@ -21,11 +21,20 @@ free a b = ltb (b .used) a
 abbrev pub frame : ℕ → FrameBook → ℕ
 frame a b = if free a b then b .used else b .hand
 
--- the book after page y is loaded: "B[f] = y", and b grows by 1, or "hand becomes (f+1) mod a"
+-- "B[f] = y"
+abbrev pub seat : FrameBook → ℕ → VirtualPage → FrameBook
+seat b f y = record { used = b .used; hand = b .hand; held = set (b .held) f y }
+
+-- "then b grows by 1", or "hand becomes (f+1) mod a"
+abbrev pub grown : FrameBook → FrameBook
+grown b = record { used = b .used + 1; hand = b .hand; held = b .held }
+
+abbrev pub turned : ℕ → ℕ → FrameBook → FrameBook
+turned a f b = record { used = b .used; hand = (f + 1) % a; held = b .held }
+
+-- the book after page y is loaded
 unfoldable pub advanced : ℕ → FrameBook → VirtualPage → FrameBook
-advanced a b y =
-    if free a b then record { used = b .used + 1; hand = b .hand; held = set (b .held) (b .used) y }
-    else record { used = b .used; hand = (b .hand + 1) % a; held = set (b .held) (b .hand) y }
+advanced a b y = if free a b then grown (seat b (frame a b) y) else turned a (frame a b) (seat b (frame a b) y)
 
 abbrev pub emptyBook : FrameBook
 emptyBook = record { used = 0; hand = 0; held = replicate 32 (virtual 0) }

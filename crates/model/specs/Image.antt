@@ -9,8 +9,9 @@ use Rattle.model.specs.Words.{aligned, low, field, plus}
 use Rattle.model.specs.Bytes.{number}
 use Rattle.model.specs.Frames.{emptyBook}
 use Rattle.model.specs.State.{Memory, State}
-use Rattle.model.specs.Answers.{verdictNumber, ImageNumbers, imageNumbers}
+use Rattle.model.specs.Answers.{verdictNumbers, ImageNumbers, imageNumbers}
 use Rattle.model.specs.Calls.{unless, StateOutcome}
+use Rattle.model.specs.declared.Shape.{Shape}
 use Rattle.model.specs.declared.Machine.{Machine}
 use Rattle.model.specs.declared.Refusal.the-variants.{Edition, Format, Room}
 use Rattle.model.specs.declared.Verdict.{Verdict}
@@ -89,16 +90,24 @@ unfoldable pub loadVerdict : List ℕ → Memory → Verdict
 loadVerdict l m =
     imageVerdict l (unless (room (framesOf l) (ptlOf l) (length (m .main)) (length (m .swap))) Room Granted)
 
--- "main the invalid entries (ppx 0, r and w from the rights)"
+-- "main the invalid entries (ppx 0, r and w from the rights)": the entry by a rights byte, and all of them as bytes
+abbrev pub invalidEntry : ℕ → ℕ
+invalidEntry x = 4 * low 1 x + 2 * field 1 1 x
+
 unfoldable pub invalidEntries : List ℕ → List ℕ
 invalidEntries [] = []
-invalidEntries (x ∷ xs) = (4 * low 1 x + 2 * field 1 1 x) ∷ 0 ∷ 0 ∷ 0 ∷ invalidEntries xs
+invalidEntries (x ∷ xs) = invalidEntry x ∷ 0 ∷ 0 ∷ 0 ∷ invalidEntries xs
 
--- "Loading makes P the lent main pages, a the frames, abase 1, pto 0, sbase 0." "DPC start, PC' start+4, all else 0"
+-- "Loading makes P the lent main pages, a the frames, abase 1, pto 0, sbase 0."
+abbrev pub freshShape : List ℕ → ℕ → Shape
+freshShape l mainLength =
+    record { pages = mainLength / 4096; frames = meant (framesOf l); abase = 1; ptl = ptlOf l; pto = 0; sbase = 0 }
+
+-- "DPC start, PC' start+4, all else 0"
 unfoldable pub fresh : List ℕ → ℕ → State
 fresh l mainLength = record {
   machine = record {
-    shape = record { pages = mainLength / 4096; frames = meant (framesOf l); abase = 1; ptl = ptlOf l; pto = 0; sbase = 0 };
+    shape = freshShape l mainLength;
     book = emptyBook;
     gpr = replicate 32 0;
     pcs = record { dpc = startOf l; next = plus (startOf l) 4 };
@@ -116,8 +125,8 @@ zeroMachine = record {
 }
 
 abbrev pub loadBy : Verdict → List ℕ → Memory → StateOutcome
-loadBy Granted l m = record { refused = 0; state = fresh l (length (m .main)) }
-loadBy (Refused r) l m = record { refused = verdictNumber (Refused r); state = record { machine = zeroMachine; memory = m } }
+loadBy Granted l m = record { verdict = verdictNumbers Granted; state = fresh l (length (m .main)) }
+loadBy (Refused r) l m = record { verdict = verdictNumbers (Refused r); state = record { machine = zeroMachine; memory = m } }
 
 unfoldable pub loadCall : List ℕ → Memory → StateOutcome
 loadCall l m = loadBy (loadVerdict l m) l m

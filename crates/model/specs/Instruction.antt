@@ -67,46 +67,46 @@ link next target = Set 31 (onward next) target
 -- "Functions under opcode 0"; x and y are the values of RS1 and RS2
 unfoldable pub register : ℕ → ℕ → ℕ → ℕ → Plan
 register next w x y =
-    if eqb (function w) 0 then value next (rd0 w) (shiftLeft x (sa w))
-    else if eqb (function w) 2 then value next (rd0 w) (shiftRight x (sa w))
-    else if eqb (function w) 3 then value next (rd0 w) (shiftSigned x (sa w))
-    else if eqb (function w) 4 then value next (rd0 w) (shiftLeft x (y % 32))
-    else if eqb (function w) 6 then value next (rd0 w) (shiftRight x (y % 32))
-    else if eqb (function w) 7 then value next (rd0 w) (shiftSigned x (y % 32))
-    else if eqb (function w) 33 then value next (rd0 w) (plus x y)
-    else if eqb (function w) 35 then value next (rd0 w) (minus x y)
-    else if eqb (function w) 36 then value next (rd0 w) (bitAnd x y)
-    else if eqb (function w) 37 then value next (rd0 w) (bitOr x y)
-    else if eqb (function w) 38 then value next (rd0 w) (bitXor x y)
-    else if eqb (function w) 39 then value next (rd0 w) (low 16 y * 65536)
-    else if leb 40 (function w) && leb (function w) 47 then value next (rd0 w) (compared (function w - 40) x y)
+    if eqb (function w) 0 then value next (rd0 w) (shiftLeft x (sa w))  -- slli
+    else if eqb (function w) 2 then value next (rd0 w) (shiftRight x (sa w))  -- srli
+    else if eqb (function w) 3 then value next (rd0 w) (shiftSigned x (sa w))  -- srai
+    else if eqb (function w) 4 then value next (rd0 w) (shiftLeft x (y % 32))  -- sll
+    else if eqb (function w) 6 then value next (rd0 w) (shiftRight x (y % 32))  -- srl
+    else if eqb (function w) 7 then value next (rd0 w) (shiftSigned x (y % 32))  -- sra
+    else if eqb (function w) 33 then value next (rd0 w) (plus x y)  -- add
+    else if eqb (function w) 35 then value next (rd0 w) (minus x y)  -- sub
+    else if eqb (function w) 36 then value next (rd0 w) (bitAnd x y)  -- and
+    else if eqb (function w) 37 then value next (rd0 w) (bitOr x y)  -- or
+    else if eqb (function w) 38 then value next (rd0 w) (bitXor x y)  -- xor
+    else if eqb (function w) 39 then value next (rd0 w) (low 16 y * 65536)  -- lhg
+    else if leb 40 (function w) && leb (function w) 47 then value next (rd0 w) (compared (function w - 40) x y)  -- clr sgr seq sge sls sne sle set
     else Unknown
 
 -- the table of opcodes; x and y are the values of RS1 and RD, and c is imm
 unfoldable pub immediate : ℕ → ℕ → ℕ → ℕ → ℕ → Plan
 immediate next w x y c =
-    if eqb (opcode w) 2 then jump (plus next (imm26 w))
-    else if eqb (opcode w) 3 then link next (plus next (imm26 w))
-    else if eqb (opcode w) 4 then jump (if eqb x 0 then plus next c else onward next)
-    else if eqb (opcode w) 5 then jump (if eqb x 0 then onward next else plus next c)
-    else if eqb (opcode w) 22 then jump x
-    else if eqb (opcode w) 23 then link next x
-    else if eqb (opcode w) 9 then value next (rd w) (plus x c)
-    else if eqb (opcode w) 11 then value next (rd w) (minus x c)
-    else if eqb (opcode w) 12 then value next (rd w) (bitAnd x c)
-    else if eqb (opcode w) 13 then value next (rd w) (bitOr x c)
-    else if eqb (opcode w) 14 then value next (rd w) (bitXor x c)
-    else if eqb (opcode w) 15 then value next (rd w) (low 16 w * 65536)
-    else if leb 24 (opcode w) && leb (opcode w) 31 then value next (rd w) (compared (opcode w - 24) x c)
-    else if eqb (opcode w) 32 then LoadByte true (rd w) (plus x c)
-    else if eqb (opcode w) 33 then LoadHalf true (rd w) (plus x c)
-    else if eqb (opcode w) 35 then LoadWord (rd w) (plus x c)
-    else if eqb (opcode w) 36 then LoadByte false (rd w) (plus x c)
-    else if eqb (opcode w) 37 then LoadHalf false (rd w) (plus x c)
-    else if eqb (opcode w) 40 then StoreByte (plus x c) y
-    else if eqb (opcode w) 41 then StoreHalf (plus x c) y
-    else if eqb (opcode w) 43 then StoreWord (plus x c) y
-    else if eqb (opcode w) 62 then Trapping (low 26 w)
+    if eqb (opcode w) 2 then jump (plus next (imm26 w))  -- j
+    else if eqb (opcode w) 3 then link next (plus next (imm26 w))  -- jal
+    else if eqb (opcode w) 4 then jump (if eqb x 0 then plus next c else onward next)  -- beqz
+    else if eqb (opcode w) 5 then jump (if eqb x 0 then onward next else plus next c)  -- bnez
+    else if eqb (opcode w) 22 then jump x  -- jr
+    else if eqb (opcode w) 23 then link next x  -- jalr
+    else if eqb (opcode w) 9 then value next (rd w) (plus x c)  -- addi
+    else if eqb (opcode w) 11 then value next (rd w) (minus x c)  -- subi
+    else if eqb (opcode w) 12 then value next (rd w) (bitAnd x c)  -- andi
+    else if eqb (opcode w) 13 then value next (rd w) (bitOr x c)  -- ori
+    else if eqb (opcode w) 14 then value next (rd w) (bitXor x c)  -- xori
+    else if eqb (opcode w) 15 then value next (rd w) (low 16 w * 65536)  -- lhgi
+    else if leb 24 (opcode w) && leb (opcode w) 31 then value next (rd w) (compared (opcode w - 24) x c)  -- clri sgri seqi sgei slsi snei slei seti
+    else if eqb (opcode w) 32 then LoadByte true (rd w) (plus x c)  -- lb
+    else if eqb (opcode w) 33 then LoadHalf true (rd w) (plus x c)  -- lh
+    else if eqb (opcode w) 35 then LoadWord (rd w) (plus x c)  -- lw
+    else if eqb (opcode w) 36 then LoadByte false (rd w) (plus x c)  -- lbu
+    else if eqb (opcode w) 37 then LoadHalf false (rd w) (plus x c)  -- lhu
+    else if eqb (opcode w) 40 then StoreByte (plus x c) y  -- sb
+    else if eqb (opcode w) 41 then StoreHalf (plus x c) y  -- sh
+    else if eqb (opcode w) 43 then StoreWord (plus x c) y  -- sw
+    else if eqb (opcode w) 62 then Trapping (low 26 w)  -- trap
     else Unknown
 
 -- the word w, with the registers as they are and `next` in PC'

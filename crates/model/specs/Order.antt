@@ -6,13 +6,12 @@ use Rattle.model.specs.Choice.{if_then_else_}
 use Rattle.model.specs.Words.{aligned}
 use Rattle.model.specs.Bytes.{number}
 use Rattle.model.specs.Pages.{pageOf}
+use Rattle.model.specs.Translate.{legal}
 use Rattle.model.specs.Instruction.{plan}
 use Rattle.model.specs.Attempt.{Width, byte, half, word, size}
 use Rattle.model.specs.Run.{Step, goes, stops}
 use Rattle.model.specs.Flat.{Flat, allow, flatInstruction}
 use Rattle.model.specs.declared.VirtualPage.{VirtualPage}
-use Rattle.model.specs.declared.Access.{Access}
-use Rattle.model.specs.declared.Access.the-variants.{Illegal, Fault, At}
 use Rattle.model.specs.declared.Plan.{Plan}
 use Rattle.model.specs.declared.Plan.the-variants.{Unknown, Set, LoadByte, LoadHalf, LoadWord, StoreByte, StoreHalf, StoreWord, Trapping}
 
@@ -21,16 +20,10 @@ pub data Demand : Type 0 where
   alone : VirtualPage → Demand
   both : VirtualPage → VirtualPage → Demand
 
--- a granted access, or none
-abbrev pub granted : Access → Bool
-granted Illegal = false
-granted Fault = false
-granted (At i) = true
-
 -- code page c, and the data page of va where that access is aligned and legal
 abbrev pub withData : Flat → VirtualPage → Bool → Width → ℕ → Demand
 withData f c writing width va =
-    if aligned (size width) va then (if granted (allow (f .rights) writing va) then both c (pageOf va) else alone c) else alone c
+    if aligned (size width) va then (if legal (allow (f .rights) writing va) then both c (pageOf va) else alone c) else alone c
 
 abbrev pub demandBy : Flat → VirtualPage → Plan → Demand
 demandBy f c Unknown = alone c
@@ -47,7 +40,7 @@ demandBy f c (Trapping n) = alone c
 unfoldable pub demandOf : Flat → List Demand
 demandOf f =
     if aligned 4 (f .pcs .dpc)
-    then (if granted (allow (f .rights) false (f .pcs .dpc))
+    then (if legal (allow (f .rights) false (f .pcs .dpc))
     then demandBy f (pageOf (f .pcs .dpc)) (plan (f .gpr) (f .pcs .next) (number 4 (f .bytes) (f .pcs .dpc))) ∷ [] else [])
     else []
 

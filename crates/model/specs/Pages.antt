@@ -19,6 +19,10 @@ pageOf va = virtual (va / 4096)
 abbrev pub offset : ℕ → ℕ
 offset va = va % 4096
 
+-- the first address of a page
+abbrev pub firstVa : VirtualPage → ℕ
+firstVa x = 4096 * x .0
+
 -- "Frames a .. at main pages abase to abase+a−1"
 abbrev pub frameAt : Shape → ℕ → MainPage
 frameAt s f = record { 0 = s .abase + f }

@@ -1,17 +1,20 @@
 -- Sections "One attempt" and "Calls and their refusals": an instruction, and a run of at most n of them. `run` serves every machine
--- that has an instruction: the paged one here, the flat one in Flat.
+-- that has an instruction: the paged one here, the flat one in Flat. What an attempt comes to decides what follows it:
+--     done       the instruction is finished, and the next one follows
+--     trapped    the instruction is finished, and the run stops (1)
+--     missing    the page is loaded, and the attempt begins anew
+--     stopped    nothing has changed, and the run stops (2, 3, 4)
 use mathlib.Core.List.{List}
 use Prim.Native.Nat.{ℕ, zero, suc, _+_}
 use Rattle.model.specs.Pages.{pageOf}
 use Rattle.model.specs.Translate.{translate}
 use Rattle.model.specs.Attempt.{Tried, attempt}
-use Rattle.model.specs.State.{Memory, State}
+use Rattle.model.specs.State.{State}
 use Rattle.model.specs.Handler.{load}
 use Rattle.model.specs.declared.Pcs.{Pcs}
 use Rattle.model.specs.declared.VirtualPage.{VirtualPage}
 use Rattle.model.specs.declared.Stop.{Stop}
 use Rattle.model.specs.declared.Stop.the-variants as stop
-use Rattle.model.specs.declared.Outcome.{Outcome}
 use Rattle.model.specs.declared.Outcome.the-variants.{Done, Trapped, Missing, Stopped}
 
 -- ---- any machine M
@@ -27,15 +30,14 @@ pub record Course (M : Type 0) : Type 0 where
   pub left : M
 
 module _ {M : Type 0} where
-  -- What an attempt of machine m comes to: `put` is the machine with other registers and bytes, `again` what follows a fault.
-  abbrev pub answered : M → (Pcs → List ℕ → List ℕ → M) → (ℕ → Step M) → List ℕ → List ℕ → Outcome → Step M
-  answered m put again gpr bytes (Done pcs) = goes (put pcs gpr bytes)
-  answered m put again gpr bytes (Trapped pcs n) = stops (stop.Trap n) 1 (put pcs gpr bytes)
-  answered m put again gpr bytes (Missing va) = again va
-  answered m put again gpr bytes (Stopped s) = stops s 0 m
-
-  abbrev pub answer : M → (Pcs → List ℕ → List ℕ → M) → (ℕ → Step M) → Tried → Step M
-  answer m put again t = answered m put again (t .gpr) (t .bytes) (t .outcome)
+  -- What an attempt t of machine m comes to: `put` is the machine with other PCs, registers and bytes, `again` what follows a fault.
+  abbrev pub answered : M → (Pcs → List ℕ → List ℕ → M) → (ℕ → Step M) → Tried → Step M
+  answered m put again t = elim (t .outcome) as (λ o. Step M) [
+    | Done pcs ↦ goes (put pcs (t .gpr) (t .bytes))
+    | Trapped pcs n ↦ stops (stop.Trap n) 1 (put pcs (t .gpr) (t .bytes))
+    | Missing va ↦ again va
+    | Stopped s ↦ stops s 0 m
+  ]
 
   abbrev pub ended : Stop → ℕ → M → Course M
   ended s n m = record { stop = s; finished = n; left = m }
@@ -82,8 +84,8 @@ served c y = record { state = load (c .state) y; loads = suc (c .loads) }
 -- An instruction with at most k page loads: "load the page, begin the attempt anew". In a sound machine two are enough, by the law
 -- `third`; where a third were needed the definition gives stop 2.
 unfoldable pub attempts : ℕ → Counted → Step Counted
-attempts zero c = answer c (put c) (λ va. stops (stop.Memory va) 0 c) (try (c .state))
-attempts (suc k) c = answer c (put c) (λ va. attempts k (served c (pageOf va))) (try (c .state))
+attempts zero c = answered c (put c) (λ va. stops (stop.IllegalMemory va) 0 c) (try (c .state))
+attempts (suc k) c = answered c (put c) (λ va. attempts k (served c (pageOf va))) (try (c .state))
 
 unfoldable pub instruction : Counted → Step Counted
 instruction c = attempts 2 c

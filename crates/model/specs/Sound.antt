@@ -13,6 +13,7 @@ use Rattle.model.specs.State.{Memory}
 use Rattle.model.specs.declared.Shape.{Shape}
 use Rattle.model.specs.declared.FrameBook.{FrameBook}
 use Rattle.model.specs.declared.Machine.{Machine}
+use Rattle.model.specs.declared.VirtualPage.{VirtualPage}
 
 -- every shape number within its bound, and both memories of the length that they say
 abbrev pub shapeTests : Shape → Memory → List Bool
@@ -30,24 +31,55 @@ shapeTests s m =
 unfoldable pub fits : Shape → Memory → Bool
 fits s m = passes (shapeTests s m)
 
+-- ---- "A machine is sound when: GPR 0 is 0; b ≤ a;"
+-- "B[0..b−1] are below ptl"
+abbrev pub heldInTable : ℕ → FrameBook → Bool
+heldInTable ptl b = everyBelow (b .used) (λ i. ltb (pageIn b i .0) ptl)
+
+-- "and all different": B[j] from each of B[0..n−1], and each B[j] from those before it
+abbrev pub differsBefore : FrameBook → ℕ → ℕ → Bool
+differsBefore b j n = everyBelow n (λ i. not (eqb (pageIn b i .0) (pageIn b j .0)))
+
+abbrev pub allDifferent : FrameBook → Bool
+allDifferent b = everyBelow (b .used) (λ j. differsBefore b j j)
+
+-- "B is 0 from b on"
+abbrev pub zeroFrom : FrameBook → ℕ → Bool
+zeroFrom b i = ltb i (b .used) || eqb (pageIn b i .0) 0
+
+abbrev pub restZero : FrameBook → Bool
+restZero b = everyBelow 32 (λ i. zeroFrom b i)
+
 -- "the entry of B[i] is valid with ppx abase+i"
 abbrev pub seated : Shape → FrameBook → List ℕ → ℕ → Bool
 seated s b main i =
     valid (entry s main (pageIn b i)) && eqb (ppx (entry s main (pageIn b i)) .0) (frameAt s i .0)
 
--- what soundness says of the book and the table: b ≤ a; B[0..b−1] below ptl, and all different; B 0 from b on; the entry of each
--- B[i]; no other entry valid; hand 0 while b < a, else hand < a
+abbrev pub framesSeated : Shape → FrameBook → List ℕ → Bool
+framesSeated s b main = everyBelow (b .used) (λ i. seated s b main i)
+
+-- "no other entry is valid"
+abbrev pub entryRight : Shape → FrameBook → List ℕ → VirtualPage → Bool
+entryRight s b main x = not (valid (entry s main x)) || resident b x
+
+abbrev pub tableOnly : Shape → FrameBook → List ℕ → Bool
+tableOnly s b main = everyBelow (s .ptl) (λ x. entryRight s b main (virtual x))
+
+-- "hand is 0 while b < a, else hand < a"
+abbrev pub handRight : ℕ → FrameBook → Bool
+handRight a b = if free a b then eqb (b .hand) 0 else ltb (b .hand) a
+
+-- what soundness says of the book and the table
 abbrev pub bookTests : Shape → FrameBook → List ℕ → List Bool
 bookTests s b main =
     leb (b .used) (s .frames)
-    ∷ everyBelow (b .used) (λ i. ltb (pageIn b i .0) (s .ptl))
-    ∷ everyBelow (b .used) (λ j. everyBelow j (λ i. not (eqb (pageIn b i .0) (pageIn b j .0))))
-    ∷ everyBelow 32 (λ i. ltb i (b .used) || eqb (pageIn b i .0) 0)
-    ∷ everyBelow (b .used) (λ i. seated s b main i)
-    ∷ everyBelow (s .ptl) (λ x. not (valid (entry s main (virtual x))) || resident b (virtual x))
-    ∷ (if free (s .frames) b then eqb (b .hand) 0 else ltb (b .hand) (s .frames))
+    ∷ heldInTable (s .ptl) b
+    ∷ allDifferent b
+    ∷ restZero b
+    ∷ framesSeated s b main
+    ∷ tableOnly s b main
+    ∷ handRight (s .frames) b
     ∷ []
 
--- "A machine is sound when: GPR 0 is 0; .."
 unfoldable pub sound : Machine → List ℕ → Bool
 sound m main = passes (eqb (getD (m .gpr) 0 0) 0 ∷ bookTests (m .shape) (m .book) main)

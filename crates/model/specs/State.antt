@@ -11,6 +11,9 @@ pub record State : Type 0 where
   pub machine : Machine
   pub memory : Memory
 
--- the record m, lent these bytes
+-- these bytes, and the record m that is lent them
+abbrev pub memory : List ℕ → List ℕ → Memory
+memory main swap = record { main = main; swap = swap }
+
 abbrev pub state : Machine → List ℕ → List ℕ → State
-state m main swap = record { machine = m; memory = record { main = main; swap = swap } }
+state m main swap = record { machine = m; memory = memory main swap }

@@ -34,3 +34,8 @@ byEntry e writing va = if has writing e then place e va else Illegal
 unfoldable pub translate : Shape → List ℕ → Bool → ℕ → Access
 translate s main writing va =
     if ltb (pageOf va .0) (s .ptl) then byEntry (entry s main (pageOf va)) writing va else Illegal
+
+abbrev pub legal : Access → Bool
+legal Illegal = false
+legal Fault = true
+legal (At i) = true

@@ -1,5 +1,5 @@
 -- Words of 32 bits, as numbers below 2^32: "Sums and differences of registers and addresses go round at 2^32".
-use mathlib.Core.Bool.{Bool}
+use mathlib.Core.Bool.{Bool, not}
 use Prim.Native.Nat.{ℕ, _+_, _-_, _*_, _/_, _%_, _^_}
 use lib.Dec.{ltb, eqb}
 use Rattle.model.specs.Choice.{if_then_else_}
@@ -35,10 +35,21 @@ shiftRight x n = x / 2 ^ n
 abbrev pub shiftSigned : ℕ → ℕ → ℕ
 shiftSigned x n = if ltb x (2 ^ 31) then x / 2 ^ n else x / 2 ^ n + (2 ^ 32 - 2 ^ (32 - n))
 
--- "RD = 1 or 0: never, >, =, ≥, <, ≠, ≤, always; signed", by number 0 to 7:
--- bit 0 of the number is the answer where x > y, bit 1 where x = y, bit 2 where x < y
-abbrev pub compared : ℕ → ℕ → ℕ → ℕ
-compared c x y = if below y x then low 1 c else if eqb x y then field 1 1 c else field 2 1 c
+-- "RD = 1 or 0"
+abbrev pub bit : Bool → ℕ
+bit b = if b then 1 else 0
+
+-- "never, >, =, ≥, <, ≠, ≤, always; signed": comparison c, of 0 to 7
+unfoldable pub compared : ℕ → ℕ → ℕ → ℕ
+compared c x y =
+    if eqb c 0 then 0  -- clr: never
+    else if eqb c 1 then bit (below y x)  -- sgr: >
+    else if eqb c 2 then bit (eqb x y)  -- seq: =
+    else if eqb c 3 then bit (not (below x y))  -- sge: ≥
+    else if eqb c 4 then bit (below x y)  -- sls: <
+    else if eqb c 5 then bit (not (eqb x y))  -- sne: ≠
+    else if eqb c 6 then bit (not (below y x))  -- sle: ≤
+    else 1  -- set: always
 
 abbrev pub aligned : ℕ → ℕ → Bool
 aligned width va = eqb (va % width) 0

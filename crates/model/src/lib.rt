@@ -62,9 +62,9 @@ pub enum Plan {
 pub enum Stop {
     Limit,
     Trap(u32),
-    Memory(u32),
+    IllegalMemory(u32),
     Misaligned(u32),
-    Instruction(u32),
+    IllegalInstruction(u32),
 }
 
 // What one attempt comes to: carried out, a trap carried out, a page missing at a virtual address, or a stop.

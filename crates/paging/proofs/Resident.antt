@@ -1,24 +1,23 @@
--- The tests of book and table by what the code finds. Where each B[i] is seated, the page of a valid entry is resident exactly where
+-- The tests of book and table together by what the code finds. Where each B[i] is seated, the page of a valid entry is resident exactly where
 -- the frame that the entry names holds it, so that no search of B is needed.
 use mathlib.Core.Path.{_≡_, refl, sym, ap, _∙_}
-use mathlib.Core.Bool.{Bool, true, false, _&&_, not}
+use mathlib.Core.Bool.{Bool, true, false, _&&_}
 use mathlib.Core.List.{List}
 use Prim.Native.Nat.{ℕ, _+_, _-_, _%_, _≤_, _<_}
 use native.Mathlib.Omega.{arith}
 use borrow.Author.Tests.{lt-ltb, le-ltb, lt-leb, le-leb, eq-eqb, ne-eqb, eqb-true, leb-true, ltb-true}
 use lib.Dec.{ltb, leb, eqb}
-use Rattle.model.specs.Choice.{everyBelow}
 use Rattle.model.specs.Pages.{frameAt}
 use Rattle.model.specs.Table.{entry, ppx, valid}
 use Rattle.model.specs.Frames.{pageIn, among, resident}
-use Rattle.model.specs.Sound.{seated}
+use Rattle.model.specs.Sound.{seated, framesSeated, entryRight}
 use Rattle.model.specs.declared.Shape.{Shape}
 use Rattle.model.specs.declared.FrameBook.{FrameBook}
 use Rattle.model.specs.declared.VirtualPage.{VirtualPage}
 use Rattle.model.specs.declared.MainPage.{MainPage}
-use Rattle.laws.proofs.Choice.{and-left, and-right, and-both, or-left, or-right, every-at, every-from, every-not}
+use Rattle.laws.proofs.Choice.{and-left, and-right, and-both, every-at}
 use Rattle.laws.proofs.Seated.{same-page}
-use Rattle.paging.specs.Tests.{allDifferent, zeroFrom, framesSeated, holds, entryRight, handRight}
+use Rattle.paging.specs.Holds.{holds}
 use Rattle.laws.proofs.Sound.{found, found-back}
 
 -- two tests that pass together are the same
@@ -26,20 +25,6 @@ same-test : (a b : Bool) → (a ≡ true → b ≡ true) → (b ≡ true → a �
 same-test true b f g = sym (f refl)
 same-test false true f g = g refl
 same-test false false f g = refl
-
--- ---- the book
-module _ (b : FrameBook) where
-  pub pair-equal : (i j : ℕ) → i < j → j < b .used → pageIn b i .0 ≡ pageIn b j .0 → false ≡ allDifferent b
-  pair-equal i j q r e = sym (every-not (b .used) _ j r (every-not j _ i q (ap not (eq-eqb _ _ e))))
-
-  pub zero-before : everyBelow (b .used) (λ k. zeroFrom b k) ≡ true
-  zero-before = every-from (b .used) _ (λ i q. or-left _ _ (lt-ltb _ _ q))
-
-  pub zero-there : (i : ℕ) → pageIn b i .0 ≡ 0 → zeroFrom b i ≡ true
-  zero-there i e = or-right (ltb i (b .used)) _ (eq-eqb _ _ e)
-
-  pub zero-not : (i : ℕ) → b .used ≤ i → (pageIn b i .0 ≡ 0 → ⊥) → zeroFrom b i ≡ false
-  zero-not i q n = simp (le-ltb _ _ q, ne-eqb _ _ n)
 
 -- ---- a frame
 pub seat-test : (s : Shape) (b : FrameBook) (main : List ℕ) (i e : ℕ) → e ≡ entry s main (pageIn b i) → (p : MainPage) → p ≡ ppx e → (q : MainPage) → q ≡ frameAt s i
@@ -51,11 +36,13 @@ module _ (s : Shape) (b : FrameBook) (p : MainPage) (x : VirtualPage) where
   pub holds-below : p .0 < s .abase → false ≡ holds s b p x
   holds-below h = simp (lt-leb _ _ h)
 
-  pub holds-behind : s .abase ≤ p .0 → b .used ≤ p .0 - s .abase → false ≡ holds s b p x
-  holds-behind h k = simp (le-leb _ _ h, le-ltb _ _ k)
+  -- by the frame f that p is
+  module _ (h : s .abase ≤ p .0) (f : ℕ) (hf : f ≡ p .0 - s .abase) where
+    pub holds-behind : b .used ≤ f → false ≡ holds s b p x
+    holds-behind k = simp (sym hf, le-leb _ _ h, le-ltb _ _ k)
 
-  pub holds-there : s .abase ≤ p .0 → p .0 - s .abase < b .used → eqb (pageIn b (p .0 - s .abase) .0) (x .0) ≡ holds s b p x
-  holds-there h k = simp (le-leb _ _ h, lt-ltb _ _ k)
+    pub holds-there : f < b .used → eqb (pageIn b f .0) (x .0) ≡ holds s b p x
+    holds-there k = simp (sym hf, le-leb _ _ h, lt-ltb _ _ k)
 
 module _ (s : Shape) (b : FrameBook) (main : List ℕ) (x : VirtualPage) (e : ℕ) (he : e ≡ entry s main x) where
   pub right-away : (e % 2 ≡ 1 → ⊥) → entryRight s b main x ≡ true
@@ -86,11 +73,3 @@ module _ (s : Shape) (b : FrameBook) (main : List ℕ) (x : VirtualPage) (e : �
     pub right-here : (p : MainPage) → p ≡ ppx e → (r : Bool) → r ≡ holds s b p x → r ≡ entryRight s b main x
     unfolding resident
     right-here p hp r hr = hr ∙ ap (λ z. holds s b z x) hp ∙ same-test _ _ held held-back ∙ rw (sym he, eq-eqb (e % 2) 1 v)
-
--- ---- the hand
-module _ (a : ℕ) (b : FrameBook) where
-  pub hand-free : b .used < a → eqb (b .hand) 0 ≡ handRight a b
-  hand-free h = simp (lt-ltb _ _ h)
-
-  pub hand-full : a ≤ b .used → ltb (b .hand) a ≡ handRight a b
-  hand-full h = simp (le-ltb _ _ h)

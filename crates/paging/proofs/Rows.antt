@@ -7,10 +7,9 @@ use borrow.Author.Tests.{eq-eqb, le-leb}
 use lib.Dec.{eqb}
 use lib.ListN.{getD}
 use Rattle.model.specs.Choice.{passes}
-use Rattle.model.specs.Sound.{bookTests, sound}
+use Rattle.model.specs.Sound.{bookTests, sound, heldInTable, allDifferent, restZero, framesSeated, tableOnly, handRight}
 use Rattle.model.specs.declared.Machine.{Machine}
 use Rattle.laws.proofs.Choice.{pass-not}
-use Rattle.paging.specs.Tests.{heldInTable, allDifferent, restZero, framesSeated, tableOnly, handRight}
 
 -- ---- joined by `&`, from the left
 unfoldable pub joined : Bool → List Bool → Bool

@@ -1,20 +1,17 @@
--- The ways out of the code over book, table and handler: a law for each, over plain variables.
+-- The ways out of the code over table and handler: a law for each, over plain variables.
 use mathlib.Core.Path.{_≡_, refl, sym, ap, _∙_}
 use mathlib.Core.Bool.{Bool, true, false, not}
 use mathlib.Core.List.{List}
 use Prim.Native.Nat.{ℕ, _/_, _%_, _≤_, _<_}
-use native.Mathlib.Omega.{arith}
-use native.Mathlib.Decide.{decLt}
 use borrow.Author.Tests.{lt-ltb, le-ltb, eq-eqb, ne-eqb, not-true, not-false}
 use lib.Dec.{ltb, eqb}
 use Rattle.model.specs.Choice.{if_then_else_}
-use Rattle.model.specs.Bytes.{page, withPage}
-use Rattle.model.specs.Pages.{pageOf, offset, mainAt, frameAt, swapOf}
+use Rattle.model.specs.Pages.{pageOf, offset, mainAt, frameAt, swapOf, mainPage, withMainPage, swapPage, withSwapPage}
 use Rattle.model.specs.Table.{entry, withEntry, ppx, valid, putOut, broughtTo}
 use Rattle.model.specs.Translate.{has, translate}
 use Rattle.model.specs.Frames.{frame, pageIn, advanced}
 use Rattle.model.specs.Handler.{out, into, loaded}
-use Rattle.model.specs.State.{Memory}
+use Rattle.model.specs.State.{Memory, memory}
 use Rattle.model.specs.declared.Shape.{Shape}
 use Rattle.model.specs.declared.FrameBook.{FrameBook}
 use Rattle.model.specs.declared.VirtualPage.{VirtualPage}
@@ -22,8 +19,7 @@ use Rattle.model.specs.declared.MainPage.{MainPage}
 use Rattle.model.specs.declared.SwapPage.{SwapPage}
 use Rattle.model.specs.declared.Access.the-variants.{Illegal, Fault, At}
 use Rattle.laws.proofs.Access.{translate-outside, translate-denied, translate-fault, translate-at}
-use Rattle.laws.proofs.Seats.{frame-free, frame-full}
-use Rattle.paging.specs.Ready.{memory, vacated, afterLoad}
+use Rattle.paging.specs.Ready.{vacated, afterLoad}
 
 -- ---- an access
 -- the right by the bit that the code tests
@@ -66,38 +62,27 @@ module _ (s : Shape) (b : FrameBook) (m : Memory) where
   unfolding vacated
   vacated-free h = simp (lt-ltb _ _ h)
 
-  pub vacated-full : s .frames ≤ b .used → out s m (b .hand) (pageIn b (b .hand)) ≡ vacated s b m
+  pub vacated-full : (f : ℕ) → f ≡ frame (s .frames) b → s .frames ≤ b .used → (left : Memory) → left ≡ out s m f (pageIn b f) → left ≡ vacated s b m
   unfolding vacated
-  vacated-full h = simp (le-ltb _ _ h)
+  vacated-full f e h left g = g ∙ ap (λ (k : ℕ). out s m k (pageIn b k)) e ∙ simp (le-ltb _ _ h)
 
   -- a load is both steps
   pub load-steps : (y : VirtualPage) → into s (vacated s b m) (frame (s .frames) b) y ≡ loaded s b m y
   unfolding vacated loaded
-  load-steps y = steps (ltb (b .used) (s .frames))
+  load-steps y = steps (ltb (b .used) (s .frames)) (frame (s .frames) b)
     where
-      steps : (c : Bool)
-          → into s (if c then m else out s m (b .hand) (pageIn b (b .hand))) (if c then b .used else b .hand) y
-          ≡ (if c then into s m (if c then b .used else b .hand) y
-          else into s (out s m (if c then b .used else b .hand) (pageIn b (if c then b .used else b .hand))) (if c then b .used else b .hand) y)
-      steps true = refl
-      steps false = refl
-
--- the frame is one of the frames
-pub frame-most : (a : ℕ) (b : FrameBook) → b .hand < a → frame a b < a
-frame-most a b h = pick (decLt (b .used) a)
-  where
-    pick : Dec (b .used < a) → frame a b < a
-    pick (yes q) = omega (arith, frame-free a b q)
-    pick (no q) = omega (arith, frame-full a b (omega arith))
+      steps : (c : Bool) (f : ℕ) → into s (if c then m else out s m f (pageIn b f)) f y ≡ (if c then into s m f y else into s (out s m f (pageIn b f)) f y)
+      steps true f = refl
+      steps false f = refl
 
 -- what the code leaves, call by call
 module _ (s : Shape) (main swap : List ℕ) (f : ℕ) (x : VirtualPage) (p : MainPage) (hp : p ≡ frameAt s f) (q : SwapPage) (hq : q ≡ swapOf s x) where
-  pub out-steps : (main′ swap′ : List ℕ) → swap′ ≡ withPage swap (q .0) (page main (p .0)) → main′ ≡ withEntry s main x (putOut (entry s main x))
+  pub out-steps : (main′ swap′ : List ℕ) → swap′ ≡ withSwapPage swap q (mainPage main p) → main′ ≡ withEntry s main x (putOut (entry s main x))
       → memory main′ swap′ ≡ out s (memory main swap) f x
   unfolding out
   out-steps main′ swap′ e g = cc
 
-  pub into-steps : (copied main′ : List ℕ) → copied ≡ withPage main (p .0) (page swap (q .0))
+  pub into-steps : (copied main′ : List ℕ) → copied ≡ withMainPage main p (swapPage swap q)
       → main′ ≡ withEntry s copied x (broughtTo p (entry s copied x)) → memory main′ swap ≡ into s (memory main swap) f x
   unfolding into
   into-steps copied main′ e g = cc

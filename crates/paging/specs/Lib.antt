@@ -1,3 +1,3 @@
 -- What the contracts of the handler and of the checks name.
 pub mod Ready
-pub mod Tests
+pub mod Holds

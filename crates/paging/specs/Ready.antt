@@ -1,8 +1,7 @@
 -- What the handler needs, and what it hands back.
-use mathlib.Core.List.{List}
 use Prim.Native.Nat.{ℕ, _≤_, _<_}
 use Rattle.model.specs.Choice.{if_then_else_}
-use Rattle.model.specs.Frames.{free, pageIn, advanced}
+use Rattle.model.specs.Frames.{free, frame, pageIn, advanced}
 use Rattle.model.specs.Handler.{out, loaded}
 use Rattle.model.specs.State.{Memory}
 use Rattle.model.specs.declared.Shape.{Shape}
@@ -14,21 +13,18 @@ use Rattle.laws.specs.Good.{Fit, SwapLong}
 pub record Ready (s : Shape) (b : FrameBook) (mainLength swapLength : ℕ) (y : VirtualPage) : Type 0 where
   pub fit : Fit s mainLength
   pub whole : SwapLong s swapLength
-  pub hand-most : b .hand < s .frames
-  pub leaves : s .frames ≤ b .used → pageIn b (b .hand) .0 < s .ptl
+  pub taken : frame (s .frames) b < s .frames
+  pub leaves : s .frames ≤ b .used → pageIn b (frame (s .frames) b) .0 < s .ptl
   pub comes : y .0 < s .ptl
-
-abbrev pub memory : List ℕ → List ℕ → Memory
-memory main swap = record { main = main; swap = swap }
 
 -- the memories once the frame that the next load takes is free
 unfoldable pub vacated : Shape → FrameBook → Memory → Memory
-vacated s b m = if free (s .frames) b then m else out s m (b .hand) (pageIn b (b .hand))
+vacated s b m = if free (s .frames) b then m else out s m (frame (s .frames) b) (pageIn b (frame (s .frames) b))
 
 -- the book and the memories after page y is loaded
-pub record Loaded : Type 0 where
+pub record Stepped : Type 0 where
   pub book : FrameBook
   pub memory : Memory
 
-abbrev pub afterLoad : Shape → FrameBook → Memory → VirtualPage → Loaded
+abbrev pub afterLoad : Shape → FrameBook → Memory → VirtualPage → Stepped
 afterLoad s b m y = record { book = advanced (s .frames) b y; memory = loaded s b m y }

@@ -1,5 +1,4 @@
 // The checks that every call makes first: the shape fits its memories (refusal 1), and the machine is sound (refusal 2).
-use crate::frames;
 use crate::seats;
 use model::Machine;
 use model::Shape;
@@ -7,7 +6,7 @@ ghost use mathlib.Core.Path.{_≡_};
 ghost use lib.ListN.{length};
 ghost use Rattle.model.specs.Sound as soundness;
 ghost use Rattle.laws.specs.Good.{Fit};
-ghost use Rattle.paging.specs.Ready.{memory};
+ghost use Rattle.model.specs.State.{memory};
 
 // "a shape number or memory length breaks its bound": none does. In 64 bits no sum goes round.
 pub fn fits(s: Shape, main: &[u8], swap: &[u8]) -> bool
@@ -43,13 +42,13 @@ pub fn sound(m: Machine, main: &[u8]) -> bool
     if b.used > s.frames {
         return false;
     }
-    if !frames::held_in_table(s.ptl, b) {
+    if !book::check::held_in_table(s.ptl, b) {
         return false;
     }
-    if !frames::all_different(b) {
+    if !book::check::all_different(b) {
         return false;
     }
-    if !frames::rest_zero(b) {
+    if !book::check::rest_zero(b) {
         return false;
     }
     if !seats::frames_seated(s, b, main) {
@@ -58,5 +57,5 @@ pub fn sound(m: Machine, main: &[u8]) -> bool
     if !seats::table_only(s, b, main) {
         return false;
     }
-    frames::hand_right(s.frames, b)
+    book::check::hand_right(s.frames, b)
 }

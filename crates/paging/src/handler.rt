@@ -1,5 +1,4 @@
 // The page handler: "The handler loads page y."
-use crate::book;
 use crate::pages;
 use crate::table;
 use model::FrameBook;
@@ -8,6 +7,7 @@ use model::VirtualPage;
 ghost use mathlib.Core.Path.{_≡_};
 ghost use Prim.Native.Nat.{_<_};
 ghost use lib.ListN.{length};
+ghost use Rattle.model.specs.State.{memory};
 ghost use Rattle.model.specs.Handler as handler;
 ghost use Rattle.laws.specs.Good.{Fit, SwapLong};
 ghost use Rattle.paging.specs.Ready as ready;
@@ -15,44 +15,45 @@ ghost use Rattle.paging.specs.Ready as ready;
 // "the page x = B[f] is copied whole to swap, its entry gets ppx 0 and v 0"
 fn put_out(s: Shape, main: &mut [u8], swap: &mut [u8], f: u32, x: VirtualPage)
     requires { ⌜ Fit s (length (now main)) × SwapLong s (length (now swap)) × (f < s .frames) × (x .0 < s .ptl) ⌝ }
-    ensures { λ _. ⌜ ready.memory (now (main .exit)) (now (swap .exit)) ≡ handler.out s (ready.memory (now (main .entry)) (now (swap .entry))) f x ⌝ }
+    ensures { λ _. ⌜ memory (now (main .exit)) (now (swap .exit)) ≡ handler.out s (memory (now (main .entry)) (now (swap .entry))) f x ⌝ }
 {
     let from = pages::frame_at(s, f);
     let to = pages::swap_of(s, x);
-    words::copy_page(main, from.0 as usize, swap, to.0 as usize);
+    pages::copy_out(main, from, swap, to);
     table::put_out_entry(s, main, x);
 }
 
 // "the frame gets y's swap page, .. y's entry gets ppx abase+f and v 1"
 fn bring_in(s: Shape, main: &mut [u8], swap: &[u8], f: u32, y: VirtualPage)
     requires { ⌜ Fit s (length (now main)) × SwapLong s (length (now swap)) × (f < s .frames) × (y .0 < s .ptl) ⌝ }
-    ensures { λ _. ⌜ ready.memory (now (main .exit)) (now (swap .entry)) ≡ handler.into s (ready.memory (now (main .entry)) (now (swap .entry))) f y ⌝ }
+    ensures { λ _. ⌜ memory (now (main .exit)) (now (swap .entry)) ≡ handler.into s (memory (now (main .entry)) (now (swap .entry))) f y ⌝ }
 {
     let from = pages::swap_of(s, y);
     let to = pages::frame_at(s, f);
-    words::copy_page(swap, from.0 as usize, main, to.0 as usize);
+    pages::copy_in(swap, from, main, to);
     table::bring_entry(s, main, y, to);
 }
 
-// Where no frame is free the page in the hand's frame leaves.
+// Where no frame is free the page in the frame that the load takes leaves.
 fn vacate(s: Shape, b: FrameBook, main: &mut [u8], swap: &mut [u8], y: VirtualPage)
     requires { ⌜ ready.Ready s b (length (now main)) (length (now swap)) y ⌝ }
-    ensures { λ _. ⌜ ready.memory (now (main .exit)) (now (swap .exit)) ≡ ready.vacated s b (ready.memory (now (main .entry)) (now (swap .entry))) ⌝ }
+    ensures { λ _. ⌜ memory (now (main .exit)) (now (swap .exit)) ≡ ready.vacated s b (memory (now (main .entry)) (now (swap .entry))) ⌝ }
 {
     if b.used < s.frames {
         return;
     }
-    let i = b.hand as usize;
+    let f = book::frame(s.frames, b);
+    let i = f as usize;
     let x = b.held[i];
-    put_out(s, main, swap, b.hand, x);
+    put_out(s, main, swap, f, x);
 }
 
 // One step: "One such step leaves the frame book advanced by exactly one load."
 pub fn load(s: Shape, b: FrameBook, main: &mut [u8], swap: &mut [u8], y: VirtualPage) -> FrameBook
     requires { ⌜ ready.Ready s b (length (now main)) (length (now swap)) y ⌝ }
-    ensures { λ r. ⌜ record { book = r; memory = ready.memory (now (main .exit)) (now (swap .exit)) } ≡ ready.afterLoad s b (ready.memory (now (main .entry)) (now (swap .entry))) y ⌝ }
+    ensures { λ r. ⌜ record { book = r; memory = memory (now (main .exit)) (now (swap .exit)) } ≡ ready.afterLoad s b (memory (now (main .entry)) (now (swap .entry))) y ⌝ }
 {
-    let next = book::advanced(s.frames, b, y);
+    let next = lent::advanced(b, s.frames, y);
     vacate(s, b, main, swap, y);
     bring_in(s, main, swap, book::frame(s.frames, b), y);
     next

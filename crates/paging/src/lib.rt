@@ -1,7 +1,5 @@
-// Paging: the translation of addresses, the frame book and the page handler.
-pub mod book;
+// Paging: the translation of addresses, the page handler, and the checks of shape and soundness.
 pub mod check;
-mod frames;
 pub mod handler;
 pub mod pages;
 mod seats;

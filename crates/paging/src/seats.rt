@@ -10,7 +10,8 @@ ghost use mathlib.Core.Bool.{true};
 ghost use Prim.Native.Nat.{_≤_};
 ghost use lib.ListN.{length};
 ghost use Rattle.laws.specs.Good.{Fit};
-ghost use Rattle.paging.specs.Tests as tests;
+ghost use Rattle.model.specs.Sound as tests;
+ghost use Rattle.paging.specs.Holds.{holds};
 
 // "the entry of B[i] is valid with ppx abase+i"
 pub(crate) fn frames_seated(s: Shape, b: FrameBook, main: &[u8]) -> bool
@@ -32,12 +33,12 @@ pub(crate) fn frames_seated(s: Shape, b: FrameBook, main: &[u8]) -> bool
 // Whether main page p is a frame in use that holds page x.
 fn holds(s: Shape, b: FrameBook, p: MainPage, x: VirtualPage) -> bool
     requires { ⌜ b .used ≤ 32 ⌝ }
-    ensures { λ r. ⌜ r ≡ tests.holds s b p x ⌝ }
+    ensures { λ r. ⌜ r ≡ holds s b p x ⌝ }
 {
     if p.0 < s.abase {
         return false;
     }
-    let f = p.0 - s.abase;
+    let f = pages::frame_of(s, p);
     if f >= b.used {
         return false;
     }
@@ -53,9 +54,10 @@ pub(crate) fn table_only(s: Shape, b: FrameBook, main: &[u8]) -> bool
 {
     let mut x: u32 = 0;
     while x < s.ptl {
-        let e = table::entry(s, main, VirtualPage(x));
+        let y = pages::virtual_page(x);
+        let e = table::entry(s, main, y);
         if e % 2 == 1 {
-            if !holds(s, b, pages::ppx(e), VirtualPage(x)) {
+            if !holds(s, b, pages::ppx(e), y) {
                 return false;
             }
         }

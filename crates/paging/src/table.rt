@@ -47,13 +47,20 @@ pub fn locate(s: Shape, main: &[u8], va: u32, writing: bool) -> Access
     Access::At(pages::main_at(pages::ppx(e), va))
 }
 
+// What of an entry the handler keeps: "r and w stay".
+fn kept(e: u32) -> u32
+    ensures { λ r. ⌜ r ≡ entries.kept e ⌝ }
+{
+    2 * (e / 2 % 4)
+}
+
 // "its entry gets ppx 0 and v 0 (r and w stay)"
 pub(crate) fn put_out_entry(s: Shape, main: &mut [u8], x: VirtualPage)
     requires { ⌜ Fit s (length (now main)) × (x .0 < s .ptl) ⌝ }
     ensures { λ _. ⌜ now (main .exit) ≡ entries.withEntry s (now (main .entry)) x (entries.putOut (entries.entry s (now (main .entry)) x)) ⌝ }
 {
     let e = entry(s, main, x);
-    words::put_word(main, pages::entry_at(s, x), 2 * (e / 2 % 4));
+    words::put_word(main, pages::entry_at(s, x), kept(e));
 }
 
 // "y's entry gets ppx abase+f and v 1"
@@ -65,6 +72,6 @@ pub(crate) fn bring_entry(s: Shape, main: &mut [u8], y: VirtualPage, p: MainPage
     words::put_word(
         main,
         pages::entry_at(s, y),
-        4096 * p.0 + 2 * (e / 2 % 4) + 1,
+        pages::ppx_part(p) + kept(e) + 1,
     );
 }

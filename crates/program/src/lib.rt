@@ -1,17 +1,27 @@
 // The small program: what it writes for what it reads, as a function of bytes.
 use model::ImageAnswer;
 use model::Machine;
+use model::Refusal;
 use model::RunAnswer;
 use model::Verdict;
 use text::lines;
 ghost use mathlib.Core.Path.{_≡_};
 ghost use Prim.Native.Nat.{_≤_};
 ghost use lib.ListN.{length};
-ghost use Rattle.model.specs.State.{state};
+ghost use Rattle.model.specs.State.{memory, state};
+ghost use Rattle.model.specs.Answers.{refusalNumber};
 ghost use Rattle.model.specs.Calls.{runCall};
 ghost use Rattle.model.specs.Image.{loadCall};
-ghost use Rattle.model.specs.Console.{runLines, loadedLines, consoleText};
+ghost use Rattle.model.specs.Console.{refusedLine, runLines, loadedLines, consoleText};
 ghost use Rattle.text.specs.Text.{Written};
+
+// "the one line `refused` with the number"
+fn refuse(refusal: Refusal, out: &mut [u8]) -> usize
+    requires { ⌜ 128 ≤ length (now out) ⌝ }
+    ensures { λ r. ⌜ Written (now (out .exit)) r (refusedLine (refusalNumber refusal)) ⌝ }
+{
+    lines::refused_line(out, answers::refusal_number(refusal))
+}
 
 // "runs at most 1000 instructions"
 fn run_and_print(m: Machine, main: &mut [u8], swap: &mut [u8], out: &mut [u8]) -> usize
@@ -22,7 +32,7 @@ fn run_and_print(m: Machine, main: &mut [u8], swap: &mut [u8], out: &mut [u8]) -
     let dpc = result.machine.pcs.dpc;
     let answer = result.answer;
     match answer {
-        RunAnswer::NotRun(refusal) => lines::refused_line(out, answers::refusal_number(refusal)),
+        RunAnswer::NotRun(refusal) => refuse(refusal, out),
         RunAnswer::Ran {
             stop,
             finished,
@@ -41,13 +51,13 @@ fn run_and_print(m: Machine, main: &mut [u8], swap: &mut [u8], out: &mut [u8]) -
 fn load_and_run(input: &[u8], main: &mut [u8], swap: &mut [u8], out: &mut [u8]) -> usize
     requires { ⌜ 128 ≤ length (now out) ⌝ }
     ensures { λ r. ⌜ Written (now (out .exit)) r
-        (loadedLines (loadCall (now (input .entry)) (record { main = now (main .entry); swap = now (swap .entry) }))) ⌝ }
+        (loadedLines (loadCall (now (input .entry)) (memory (now (main .entry)) (now (swap .entry))))) ⌝ }
 {
-    let handed = image::load(input, main, swap);
+    let handed = loading::load(input, main, swap);
     let machine = handed.machine;
     let verdict = handed.verdict;
     match verdict {
-        Verdict::Refused(refusal) => lines::refused_line(out, answers::refusal_number(refusal)),
+        Verdict::Refused(refusal) => refuse(refusal, out),
         Verdict::Granted => run_and_print(machine, main, swap, out),
     }
 }
@@ -59,19 +69,17 @@ pub fn console(input: &[u8], main: &mut [u8], swap: &mut [u8], out: &mut [u8]) -
     ensures { λ r. ⌜ Written (now (out .exit)) r (consoleText (now (input .entry))) ⌝ }
 {
     if input.len() > 17436 {
-        return lines::refused_line(out, 7);
+        return refuse(Refusal::Room, out);
     }
     match image::read(input) {
-        ImageAnswer::NotImage(refusal) => {
-            lines::refused_line(out, answers::refusal_number(refusal))
-        }
+        ImageAnswer::NotImage(refusal) => refuse(refusal, out),
         ImageAnswer::Image {
             ptl,
             start: _,
             frames: _,
         } => {
             if ptl > 4 {
-                return lines::refused_line(out, 7);
+                return refuse(Refusal::Room, out);
             }
             let n = 4096 * (ptl as usize);
             load_and_run(input, main, &mut swap[..n], out)

@@ -7,6 +7,7 @@ use native.Mathlib.Omega.{arith}
 use lib.Dec.{eqb}
 use lib.ListN.{length, take}
 use Rattle.bytes.specs.Bytes.{indexOf, indexAfter}
+use Rattle.record.specs.Words.{lastWord}
 use Rattle.script.specs.Digits.{same}
 use Rattle.script.specs.Parts.{oneNumber, twoNumbers, numberAndHex, bytesWithin}
 use Rattle.script.specs.Grammar.{ofOne, ofTwo, ofBytes, any, mainSize, swapSize, ended, runLine, readLine, writeLine, viewLine, replyLine, mainLine, swapLine, recordLine, lendLine, call, look, disturb, commandOf}
@@ -33,7 +34,7 @@ Bounded n Frames = Unit
 Bounded n Sum = Unit
 Bounded n (Main at start end) = (at + (end - start) / 2 ≤ 262144) × (start ≤ end) × (end ≤ n)
 Bounded n (Swap at start end) = (at + (end - start) / 2 ≤ 327680) × (start ≤ end) × (end ≤ n)
-Bounded n (Record index value) = index ≤ 73
+Bounded n (Record index value) = index ≤ lastWord
 Bounded n (Lend main swap) = (main ≤ 262144) × (swap ≤ 327680)
 Bounded n (Bad column) = column ≤ n + 2
 
@@ -71,8 +72,8 @@ module _ (w l : List ℕ) (at : ℕ) (h : at ≤ length l) where
   disturb-bounded =
       chosen In (same w mainWord) (λ _. main-bounded (length l) (bytesWithin l at mainSize) (fit-in l at mainSize h))
       (λ _. chosen In (same w swapWord) (λ _. swap-bounded (length l) (bytesWithin l at swapSize) (fit-in l at swapSize h))
-      (λ _. chosen In (same w recordWord) (λ _. two-bounded (length l) Record 73 any (λ v u a b. a) (twoNumbers l at 73 any)
-      (two-in l at 73 any h))
+      (λ _. chosen In (same w recordWord) (λ _. two-bounded (length l) Record lastWord any (λ v u a b. a) (twoNumbers l at lastWord any)
+      (two-in l at lastWord any h))
       (λ _. chosen In (same w lendWord) (λ _. two-bounded (length l) Lend mainSize swapSize (λ v u a b. (a, b)) (twoNumbers l at
       mainSize swapSize) (two-in l at mainSize swapSize h))
       (λ _. omega arith))))

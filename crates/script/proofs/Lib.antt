@@ -6,5 +6,4 @@ pub mod Bounds
 pub mod Ways
 pub mod Pairs
 pub mod Mixing
-pub mod Recorded
 pub mod Commands

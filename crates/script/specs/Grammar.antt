@@ -5,6 +5,7 @@ use lib.Dec.{eqb}
 use lib.ListN.{length, take}
 use Rattle.bytes.specs.Bytes.{indexOf}
 use Rattle.model.specs.Choice.{if_then_else_}
+use Rattle.record.specs.Words.{lastWord}
 use Rattle.script.specs.Digits.{same}
 use Rattle.script.specs.Vocabulary.{runWord, readWord, writeWord, viewWord, replyWord, registersWord, framesWord, sumWord, mainWord, swapWord, recordWord, lendWord}
 use Rattle.script.specs.Parts.{oneNumber, twoNumbers, numberAndHex, bytesWithin}
@@ -72,9 +73,9 @@ mainLine l at = ofBytes Main (bytesWithin l at mainSize)
 unfoldable pub swapLine : List ℕ → ℕ → Command
 swapLine l at = ofBytes Swap (bytesWithin l at swapSize)
 
--- `record I V`, I to 73
+-- `record I V`, I a word of the record
 unfoldable pub recordLine : List ℕ → ℕ → Command
-recordLine l at = ofTwo Record (twoNumbers l at 73 any)
+recordLine l at = ofTwo Record (twoNumbers l at lastWord any)
 
 -- `lend M S`, within the buffers
 unfoldable pub lendLine : List ℕ → ℕ → Command

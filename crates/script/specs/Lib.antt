@@ -3,5 +3,4 @@ pub mod Digits
 pub mod Fnv
 pub mod Grammar
 pub mod Parts
-pub mod RecordWords
 pub mod Vocabulary

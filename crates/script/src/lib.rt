@@ -7,7 +7,6 @@ ghost use Rattle.script.specs.Grammar as grammar;
 pub mod fnv;
 pub mod hex;
 pub mod parts;
-pub mod record_words;
 
 use parts::Bytes;
 use parts::One;
@@ -66,6 +65,9 @@ const MAIN: u32 = 262144;
 
 const SWAP: u32 = 327680;
 
+// The last word of the record.
+const WORD: u32 = record::LENGTH as u32 - 1;
+
 fn run_of(line: &[u8], at: usize) -> Command
     requires { ⌜ at ≤ length (now line) ⌝ }
     ensures { λ r. ⌜ r ≡ grammar.runLine (now (line .entry)) at ⌝ }
@@ -116,7 +118,7 @@ fn record_of(line: &[u8], at: usize) -> Command
     requires { ⌜ at ≤ length (now line) ⌝ }
     ensures { λ r. ⌜ r ≡ grammar.recordLine (now (line .entry)) at ⌝ }
 {
-    match parts::two_numbers(line, at, 73, ANY) {
+    match parts::two_numbers(line, at, WORD, ANY) {
         Two::Values { first, second } => Command::Record {
             index: first,
             value: second,

@@ -3,8 +3,8 @@ use mathlib.Core.Path.{_≡_, refl, sym, ap, _∙_}
 use mathlib.Core.List.{List}
 use Prim.Native.Nat.{ℕ}
 use Rattle.model.specs.State.{State}
-use Rattle.model.specs.Answers.{refusalNumber, verdictNumber, stopNumber, stopDetail, runNumbers}
-use Rattle.model.specs.Console.{refusedLine}
+use Rattle.model.specs.Answers.{refusalNumber, VerdictNumbers, verdictNumbers, stopNumber, stopDetail, runNumbers}
+use Rattle.model.specs.Console.{refusedLine, orRefused}
 use Rattle.model.specs.Calls.{RunOutcome, runOutcome}
 use Rattle.model.specs.declared.Stop.{Stop}
 use Rattle.model.specs.declared.Refusal.{Refusal}
@@ -15,13 +15,13 @@ use Rattle.model.specs.declared.RunAnswer.{RunAnswer}
 use Rattle.model.specs.declared.RunAnswer.the-variants.{Ran, NotRun}
 use Rattle.text.specs.Text.{Written}
 use Rattle.series.specs.Lines.{runLine}
-use Rattle.series.specs.Answers.{granted, runText}
+use Rattle.series.specs.Answers.{runText}
 
 -- the same text, said otherwise
 pub written-as : {e : List ℕ} {n : ℕ} {x y : List ℕ} → Written e n x → x ≡ y → Written e n y
 written-as w h = rw h at w
 
-refused-text : (r : Refusal) (line : List ℕ) → refusedLine (refusalNumber r) ≡ granted (refusalNumber r) line
+refused-text : (r : Refusal) (line : List ℕ) → refusedLine (refusalNumber r) ≡ orRefused (verdictNumbers (Refused r)) line
 refused-text Bound line = refl
 refused-text Unsound line = refl
 refused-text Rights line = refl
@@ -31,13 +31,13 @@ refused-text Format line = refl
 refused-text Room line = refl
 
 -- a verdict v, and the number n that is printed for it
-module _ (v : Verdict) (k : ℕ) (e : verdictNumber v ≡ k) (line : List ℕ) where
-  pub verdict-refused : {r : Refusal} {n : ℕ} → v ≡ Refused r → n ≡ refusalNumber r → refusedLine n ≡ granted k line
+module _ (v : Verdict) (k : VerdictNumbers) (e : verdictNumbers v ≡ k) (line : List ℕ) where
+  pub verdict-refused : {r : Refusal} {n : ℕ} → v ≡ Refused r → n ≡ refusalNumber r → refusedLine n ≡ orRefused k line
   verdict-refused {r} {n} g h =
-      ap refusedLine h ∙ refused-text r line ∙ ap (λ (j : ℕ). granted j line) (sym (ap verdictNumber g) ∙ e)
+      ap refusedLine h ∙ refused-text r line ∙ ap (λ (j : VerdictNumbers). orRefused j line) (sym (ap verdictNumbers g) ∙ e)
 
-  pub verdict-granted : v ≡ Granted → line ≡ granted k line
-  verdict-granted g = ap (λ (j : ℕ). granted j line) (sym (ap verdictNumber g) ∙ e)
+  pub verdict-granted : v ≡ Granted → line ≡ orRefused k line
+  verdict-granted g = ap (λ (j : VerdictNumbers). orRefused j line) (sym (ap verdictNumbers g) ∙ e)
 
 module _ (a : RunAnswer) (p : State) (o : RunOutcome) (e : runOutcome a p ≡ o) where
   pub run-refused : {r : Refusal} {n : ℕ} → a ≡ NotRun r → n ≡ refusalNumber r → refusedLine n ≡ runText (o .numbers)

@@ -21,7 +21,7 @@ pub few-pages : (l : List ℕ) (a : ImageAnswer) {ptl start frames : ℕ} → im
     → length l ≤ 263256 → ptl ≤ 64
 few-pages l a {ptl} {start} {frames} e g h =
     let n : imageNumbers (Image ptl start frames) ≡ imageCall l .numbers = sym (ap imageNumbers g) ∙ e in
-    let facts = read-facts l (sym (ap (λ (x : ImageNumbers). x .refused) n)) in
+    let facts = read-facts l (sym (ap (λ (x : ImageNumbers). x .verdict .refused) n)) in
     let p : ptl ≡ ptlOf l =
     ap (λ (x : ImageNumbers). x .ptl) n ∙ ap (λ (o : ImageOutcome). o .numbers .ptl) (read-accepted l (facts .0) (facts .1)) in
     omega (arith, facts .1 .to-pages, facts .1 .within)

@@ -1,10 +1,10 @@
 -- The lines that the program answers with, byte by byte.
-use mathlib.Core.List.{List, [], _∷_, _++_, map}
+use mathlib.Core.List.{List, [], _∷_, _++_}
 use Prim.Native.Nat.{ℕ}
 use Rattle.model.specs.Console.{spaced, newline}
-use Rattle.model.specs.declared.VirtualPage.{VirtualPage}
 use Rattle.model.specs.declared.Pcs.{Pcs}
 use Rattle.model.specs.declared.FrameBook.{FrameBook}
+use Rattle.record.specs.Words.{numbersOf}
 use Rattle.text.specs.Text.{hexOf}
 use Rattle.script.specs.Vocabulary.{runWord, registersWord, framesWord}
 
@@ -15,10 +15,6 @@ pair first second = spaced first ++ spaced second
 unfoldable pub spacedAll : List ℕ → List ℕ
 spacedAll [] = []
 spacedAll (x ∷ xs) = spaced x ++ spacedAll xs
-
--- the page numbers of the frame book
-abbrev pub numbersOf : List VirtualPage → List ℕ
-numbersOf held = map (λ (p : VirtualPage). p .0) held
 
 abbrev pub loadedWord : List ℕ
 loadedWord = 108 ∷ 111 ∷ 97 ∷ 100 ∷ 101 ∷ 100 ∷ []

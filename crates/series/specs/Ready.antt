@@ -15,6 +15,6 @@ pub record Room (main swap out : List ℕ) : Type 0 where
   pub out-long : length out ≡ 9000
 
 -- a line leaves the lent bytes within the buffers, and its answer within its own
-pub record Kept (main swap filled : ℕ) : Type 0 where
+pub record Fitting (main swap filled : ℕ) : Type 0 where
   pub lent : Lent main swap
   pub short : filled ≤ 9000

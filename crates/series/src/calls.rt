@@ -12,7 +12,8 @@ ghost use lib.ListN.{length};
 ghost use Rattle.model.specs.State.{state};
 ghost use Rattle.model.specs.Pages.{virtual};
 ghost use Rattle.model.specs.Calls as calls;
-ghost use Rattle.model.specs.Answers.{verdictNumber};
+ghost use Rattle.model.specs.Answers.{verdictNumbers};
+ghost use Rattle.model.specs.Console.{orRefused};
 ghost use Rattle.text.specs.Text.{Written};
 ghost use Rattle.series.specs.Answers as answers;
 ghost use Rattle.series.specs.Lines.{wordLine};
@@ -26,7 +27,7 @@ pub(crate) struct Done {
 // The word of a call that answers nothing more, or its refusal.
 fn verdict_line(out: &mut [u8], verdict: Verdict, word: &[u8]) -> usize
     requires { ⌜ (128 ≤ length (now out)) × (length (now word) ≤ 100) ⌝ }
-    ensures { λ r. ⌜ Written (now (out .exit)) r (answers.granted (verdictNumber verdict) (wordLine (now (word .entry)))) ⌝ }
+    ensures { λ r. ⌜ Written (now (out .exit)) r (orRefused (verdictNumbers verdict) (wordLine (now (word .entry)))) ⌝ }
 {
     match verdict {
         Verdict::Refused(refusal) => refused_line(out, refusal_number(refusal)),

@@ -1,15 +1,11 @@
 // The lines that the program answers with, each put into a lent buffer from its start on.
 use model::FrameBook;
 use model::Pcs;
-use model::VirtualPage;
 use text::lines::put_spaced;
 use text::put;
 use text::put_hex;
-ghost use mathlib.Core.Path.{_≡_};
-ghost use mathlib.Core.List.{_++_};
 ghost use Prim.Native.Nat.{_+_, _*_, _≤_};
 ghost use lib.ListN.{length};
-ghost use Rattle.model.specs.Console.{spaced, newline};
 ghost use Rattle.text.specs.Text.{Appended, Written};
 ghost use Rattle.series.specs.Lines as lines;
 
@@ -73,30 +69,15 @@ pub(crate) fn loaded_line(out: &mut [u8], ptl: u32, start: u32, frames: u32) -> 
     put(out, end, b"\n")
 }
 
-// Every register, each behind a space.
-fn put_registers(out: &mut [u8], at: usize, gpr: [u32; 32]) -> usize
+// 32 numbers, each behind a space.
+fn put_all(out: &mut [u8], at: usize, numbers: [u32; 32]) -> usize
     requires { ⌜ at + 352 ≤ length (now out) ⌝ }
-    ensures { λ r. ⌜ Appended (now (out .entry)) at (now (out .exit)) r (lines.spacedAll gpr) × (r ≤ at + 352) ⌝ }
+    ensures { λ r. ⌜ Appended (now (out .entry)) at (now (out .exit)) r (lines.spacedAll numbers) × (r ≤ at + 352) ⌝ }
 {
     let mut to = at;
     let mut i = 0;
     while i < 32 {
-        to = put_spaced(out, to, gpr[i]);
-        i += 1;
-    }
-    to
-}
-
-// Every page of the frame book, each behind a space.
-fn put_held(out: &mut [u8], at: usize, held: [VirtualPage; 32]) -> usize
-    requires { ⌜ at + 352 ≤ length (now out) ⌝ }
-    ensures { λ r. ⌜ Appended (now (out .entry)) at (now (out .exit)) r (lines.spacedAll (lines.numbersOf held)) × (r ≤ at + 352) ⌝ }
-{
-    let mut to = at;
-    let mut i = 0;
-    while i < 32 {
-        let x = held[i];
-        to = put_spaced(out, to, x.0);
+        to = put_spaced(out, to, numbers[i]);
         i += 1;
     }
     to
@@ -109,7 +90,7 @@ pub(crate) fn registers_line(out: &mut [u8], pcs: Pcs, gpr: [u32; 32]) -> usize
 {
     let first = put(out, 0, b"registers");
     let second = put_pair(out, first, pcs.dpc, pcs.next);
-    let end = put_registers(out, second, gpr);
+    let end = put_all(out, second, gpr);
     put(out, end, b"\n")
 }
 
@@ -119,8 +100,9 @@ pub(crate) fn frames_line(out: &mut [u8], book: FrameBook) -> usize
     ensures { λ r. ⌜ Written (now (out .exit)) r (lines.framesLine book) ⌝ }
 {
     let held = book.held;
+    let numbers = record::numbers_of(held);
     let first = put(out, 0, b"frames");
     let second = put_pair(out, first, book.used, book.hand);
-    let end = put_held(out, second, held);
+    let end = put_all(out, second, numbers);
     put(out, end, b"\n")
 }

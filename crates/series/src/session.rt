@@ -90,7 +90,7 @@ fn begin(
 {
     let a = 4096 * (pages as usize);
     let s = 4096 * (ptl as usize);
-    let handed = image::load(file, &mut main[..a], &mut swap[..s]);
+    let handed = loading::load(file, &mut main[..a], &mut swap[..s]);
     let machine = handed.machine;
     let verdict = handed.verdict;
     match verdict {

@@ -4,11 +4,10 @@ use crate::lines;
 use model::Machine;
 use script::Command;
 use script::hex;
-use script::record_words;
 ghost use mathlib.Core.Path.{_≡_};
 ghost use Prim.Native.Nat.{_+_, _/_, _≤_};
 ghost use lib.ListN.{length};
-ghost use Rattle.series.specs.Ready.{Lent, Room, Kept};
+ghost use Rattle.series.specs.Ready.{Lent, Room, Fitting};
 
 // What stands between two lines: the record, and how many bytes of each buffer are lent.
 pub(crate) struct Standing {
@@ -41,7 +40,7 @@ fn onward(machine: Machine, main: usize, swap: usize, filled: usize) -> Told
 
 fn run(at: Standing, main: &mut [u8], swap: &mut [u8], limit: u32, out: &mut [u8]) -> Told
     requires { ⌜ Lent (at .main) (at .swap) × Room (now main) (now swap) (now out) ⌝ }
-    ensures { λ r. ⌜ Kept (r .standing .main) (r .standing .swap) (r .filled) ⌝ }
+    ensures { λ r. ⌜ Fitting (r .standing .main) (r .standing .swap) (r .filled) ⌝ }
 {
     let a = at.main;
     let s = at.swap;
@@ -62,7 +61,7 @@ fn read(
     out: &mut [u8],
 ) -> Told
     requires { ⌜ Lent (at .main) (at .swap) × Room (now main) (now swap) (now out) × (length (now spare) ≡ 32768) × (n ≤ 512) ⌝ }
-    ensures { λ r. ⌜ Kept (r .standing .main) (r .standing .swap) (r .filled) ⌝ }
+    ensures { λ r. ⌜ Fitting (r .standing .main) (r .standing .swap) (r .filled) ⌝ }
 {
     let a = at.main;
     let s = at.swap;
@@ -81,7 +80,7 @@ fn write_from(
     out: &mut [u8],
 ) -> Told
     requires { ⌜ Lent (at .main) (at .swap) × Room (now main) (now swap) (now out) ⌝ }
-    ensures { λ r. ⌜ Kept (r .standing .main) (r .standing .swap) (r .filled) ⌝ }
+    ensures { λ r. ⌜ Fitting (r .standing .main) (r .standing .swap) (r .filled) ⌝ }
 {
     let a = at.main;
     let s = at.swap;
@@ -103,7 +102,7 @@ fn write(
 ) -> Told
     requires { ⌜ Lent (at .main) (at .swap) × Room (now main) (now swap) (now out) × (length (now spare) ≡ 32768)
         × (length (now pairs) ≤ 65536) ⌝ }
-    ensures { λ r. ⌜ Kept (r .standing .main) (r .standing .swap) (r .filled) ⌝ }
+    ensures { λ r. ⌜ Fitting (r .standing .main) (r .standing .swap) (r .filled) ⌝ }
 {
     let n = pairs.len() / 2;
     hex::put_bytes(pairs, spare, 0);
@@ -112,7 +111,7 @@ fn write(
 
 fn view<'a>(at: Standing, main: &'a [u8], swap: &'a [u8], page: u32, out: &mut [u8]) -> Told
     requires { ⌜ Lent (at .main) (at .swap) × Room (now main) (now swap) (now out) ⌝ }
-    ensures { λ r. ⌜ Kept (r .standing .main) (r .standing .swap) (r .filled) ⌝ }
+    ensures { λ r. ⌜ Fitting (r .standing .main) (r .standing .swap) (r .filled) ⌝ }
 {
     let a = at.main;
     let s = at.swap;
@@ -123,7 +122,7 @@ fn view<'a>(at: Standing, main: &'a [u8], swap: &'a [u8], page: u32, out: &mut [
 
 fn reply(at: Standing, register: u32, value: u32, out: &mut [u8]) -> Told
     requires { ⌜ Lent (at .main) (at .swap) × (length (now out) ≡ 9000) ⌝ }
-    ensures { λ r. ⌜ Kept (r .standing .main) (r .standing .swap) (r .filled) ⌝ }
+    ensures { λ r. ⌜ Fitting (r .standing .main) (r .standing .swap) (r .filled) ⌝ }
 {
     let m = at.machine;
     let done = calls::reply(m, register, value, out);
@@ -133,7 +132,7 @@ fn reply(at: Standing, register: u32, value: u32, out: &mut [u8]) -> Told
 
 fn registers(at: Standing, out: &mut [u8]) -> Told
     requires { ⌜ Lent (at .main) (at .swap) × (length (now out) ≡ 9000) ⌝ }
-    ensures { λ r. ⌜ Kept (r .standing .main) (r .standing .swap) (r .filled) ⌝ }
+    ensures { λ r. ⌜ Fitting (r .standing .main) (r .standing .swap) (r .filled) ⌝ }
 {
     let m = at.machine;
     let pcs = m.pcs;
@@ -144,7 +143,7 @@ fn registers(at: Standing, out: &mut [u8]) -> Told
 
 fn frames(at: Standing, out: &mut [u8]) -> Told
     requires { ⌜ Lent (at .main) (at .swap) × (length (now out) ≡ 9000) ⌝ }
-    ensures { λ r. ⌜ Kept (r .standing .main) (r .standing .swap) (r .filled) ⌝ }
+    ensures { λ r. ⌜ Fitting (r .standing .main) (r .standing .swap) (r .filled) ⌝ }
 {
     let m = at.machine;
     let book = m.book;
@@ -154,7 +153,7 @@ fn frames(at: Standing, out: &mut [u8]) -> Told
 
 fn sum(at: Standing, main: &[u8], swap: &[u8], out: &mut [u8]) -> Told
     requires { ⌜ Lent (at .main) (at .swap) × Room (now main) (now swap) (now out) ⌝ }
-    ensures { λ r. ⌜ Kept (r .standing .main) (r .standing .swap) (r .filled) ⌝ }
+    ensures { λ r. ⌜ Fitting (r .standing .main) (r .standing .swap) (r .filled) ⌝ }
 {
     let a = at.main;
     let s = at.swap;
@@ -174,7 +173,7 @@ fn poke(
 ) -> Told
     requires { ⌜ Lent (at .main) (at .swap) × (length (now out) ≡ 9000) × (length (now word) ≤ 8)
         × (place + length (now pairs) / 2 ≤ length (now buffer)) ⌝ }
-    ensures { λ r. ⌜ Kept (r .standing .main) (r .standing .swap) (r .filled) ⌝ }
+    ensures { λ r. ⌜ Fitting (r .standing .main) (r .standing .swap) (r .filled) ⌝ }
 {
     let m = at.machine;
     hex::put_bytes(pairs, buffer, place as usize);
@@ -184,17 +183,17 @@ fn poke(
 
 fn set_word(at: Standing, index: u32, value: u32, out: &mut [u8]) -> Told
     requires { ⌜ Lent (at .main) (at .swap) × (length (now out) ≡ 9000) ⌝ }
-    ensures { λ r. ⌜ Kept (r .standing .main) (r .standing .swap) (r .filled) ⌝ }
+    ensures { λ r. ⌜ Fitting (r .standing .main) (r .standing .swap) (r .filled) ⌝ }
 {
     let m = at.machine;
-    let after = record_words::set_word(m, index, value);
+    let after = record::set_word(m, index, value);
     let filled = lines::word_line(out, b"record");
     onward(after, at.main, at.swap, filled)
 }
 
 fn lend(at: Standing, main: u32, swap: u32, out: &mut [u8]) -> Told
     requires { ⌜ Lent main swap × (length (now out) ≡ 9000) ⌝ }
-    ensures { λ r. ⌜ Kept (r .standing .main) (r .standing .swap) (r .filled) ⌝ }
+    ensures { λ r. ⌜ Fitting (r .standing .main) (r .standing .swap) (r .filled) ⌝ }
 {
     let m = at.machine;
     let filled = lines::word_line(out, b"lend");
@@ -204,7 +203,7 @@ fn lend(at: Standing, main: u32, swap: u32, out: &mut [u8]) -> Told
 // `bad LINE COLUMN`, "and the program ends".
 fn bad(at: Standing, number: u32, column: u32, out: &mut [u8]) -> Told
     requires { ⌜ Lent (at .main) (at .swap) × (length (now out) ≡ 9000) ⌝ }
-    ensures { λ r. ⌜ Kept (r .standing .main) (r .standing .swap) (r .filled) ⌝ }
+    ensures { λ r. ⌜ Fitting (r .standing .main) (r .standing .swap) (r .filled) ⌝ }
 {
     let filled = lines::pair_line(out, b"bad", number, column);
     Told {
@@ -225,7 +224,7 @@ pub(crate) fn step(
 ) -> Told
     requires { ⌜ Lent (at .main) (at .swap) × Room (now main) (now swap) (now out) × (length (now spare) ≡ 32768)
         × (length (now line) ≤ 65536) ⌝ }
-    ensures { λ r. ⌜ Kept (r .standing .main) (r .standing .swap) (r .filled) ⌝ }
+    ensures { λ r. ⌜ Fitting (r .standing .main) (r .standing .swap) (r .filled) ⌝ }
 {
     match script::parse(line) {
         Command::Run { limit } => run(at, main, swap, limit, out),

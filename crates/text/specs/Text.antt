@@ -5,7 +5,8 @@ use Prim.Native.Nat.{ℕ, _+_, _/_, _%_}
 use lib.Dec.{ltb}
 use lib.ListN.{length, take}
 use Rattle.model.specs.Choice.{if_then_else_}
-use Rattle.model.specs.Answers.{RunNumbers}
+use Rattle.model.specs.Answers.{verdictNumbers, RunNumbers}
+use Rattle.model.specs.declared.Verdict.the-variants.{Granted}
 
 -- `after` is the buffer once the bytes stand in it from `at` on, and `to` the place behind them
 pub record Appended (before : List ℕ) (at : ℕ) (after : List ℕ) (to : ℕ) (bytes : List ℕ) : Type 0 where
@@ -29,4 +30,4 @@ hexOf (b ∷ bs) = hexDigit (b / 16) ∷ hexDigit (b % 16) ∷ hexOf bs
 
 -- the numbers of a run that is not refused
 abbrev pub numbersOf : ℕ → ℕ → ℕ → ℕ → RunNumbers
-numbersOf stop detail finished loads = record { refused = 0; stop = stop; detail = detail; finished = finished; loads = loads }
+numbersOf stop detail finished loads = record { verdict = verdictNumbers Granted; stop = stop; detail = detail; finished = finished; loads = loads }

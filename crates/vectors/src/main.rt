@@ -1,6 +1,5 @@
 // Runs the worked values of document 01 that are not marked with *, compares each with what the paper says, and prints a line for it.
 use libc::STDOUT_FILENO;
-use model::Machine;
 use model::RunAnswer;
 use model::RunResult;
 use model::Stop;
@@ -94,7 +93,7 @@ fn small() {
     let file = small_image(0);
     let mut main = [0u8; 20480];
     let mut swap = [0u8; 4096];
-    let l = image::load(&file, &mut main, &mut swap);
+    let l = loading::load(&file, &mut main, &mut swap);
     let v = l.verdict;
     say(
         b"the small image is loaded",
@@ -136,7 +135,7 @@ fn one_frame() {
     let file = small_image(1);
     let mut main = [0u8; 20480];
     let mut swap = [0u8; 4096];
-    let l = image::load(&file, &mut main, &mut swap);
+    let l = loading::load(&file, &mut main, &mut swap);
     let v = l.verdict;
     say(b"frames 1 refused 6", answers::verdict_number(v) == 6);
 }
@@ -146,7 +145,7 @@ fn border() {
     let file = form_image();
     let mut main = [0u8; 20480];
     let mut swap = [0u8; 16384];
-    let l = image::load(&file, &mut main, &mut swap);
+    let l = loading::load(&file, &mut main, &mut swap);
     let first = machine::run(l.machine, &mut main, &mut swap, 1000);
     let shown = first.machine;
     let b = shown.book;

@@ -6,7 +6,7 @@ use Prim.Native.Nat.{ℕ, _+_, _-_, _*_, _%_, _^_}
 use lib.Dec.{T, eqb}
 use lib.ListN.{replicate}
 use Rattle.model.specs.Choice.{passes, everyBelow, listBelow}
-use Rattle.model.specs.Words.{minus}
+use Rattle.model.specs.Words.{minus, compared}
 use Rattle.model.specs.Bytes.{number, store, page, withPage}
 use Rattle.model.specs.Table.{entry, withEntry}
 use Rattle.model.specs.Frames.{advanced, among, resident, emptyBook, pageIn}
@@ -14,7 +14,7 @@ use Rattle.model.specs.State.{State}
 use Rattle.model.specs.Sound.{fits, sound}
 use Rattle.model.specs.Translate.{translate}
 use Rattle.model.specs.Instruction.{plan, register, immediate}
-use Rattle.model.specs.Attempt.{transfer, loading, storing, obey, attempt}
+use Rattle.model.specs.Attempt.{transfer, obeyLoad, obeyStore, obey, attempt}
 use Rattle.model.specs.Handler.{out, into, loaded, load}
 use Rattle.model.specs.Run.{follow, run, attempts, instruction}
 use Rattle.model.specs.Calls.{machineVerdict, runVerdict, RunOutcome, runCall}
@@ -71,7 +71,7 @@ accessed (At i) = 2 ∷ i ∷ []
 
 -- refusal, stop, detail, finished, loads
 abbrev counted : RunOutcome → List ℕ
-counted r = r .numbers .refused ∷ r .numbers .stop ∷ r .numbers .detail ∷ r .numbers .finished ∷ r .numbers .loads ∷ []
+counted r = r .numbers .verdict .refused ∷ r .numbers .stop ∷ r .numbers .detail ∷ r .numbers .finished ∷ r .numbers .loads ∷ []
 
 -- B[0], B[1], hand
 abbrev booked : RunOutcome → List ℕ
@@ -147,6 +147,6 @@ pub worked : T (every (
     ∷ []
     ))
 unfolding
-    passes everyBelow listBelow number store page withPage entry withEntry advanced among resident fits sound translate plan register immediate
-    transfer loading storing obey attempt out into loaded load follow run attempts instruction machineVerdict runVerdict runCall
+    passes everyBelow listBelow compared number store page withPage entry withEntry advanced among resident fits sound translate plan register immediate
+    transfer obeyLoad obeyStore obey attempt out into loaded load follow run attempts instruction machineVerdict runVerdict runCall
 worked = tt

@@ -1,65 +1,67 @@
-//! The refusals.
+//! The refusals, by the names that the library gives them.
 use std::fmt;
 
 /// A refusal. A refused call changes nothing.
 #[derive(Clone, Copy, Debug, PartialEq, Eq)]
+#[non_exhaustive]
 pub enum Error {
     /// 1: a shape number or a memory's length breaks its bound.
-    Bounds,
+    Bound,
     /// 2: registers, frame book and page table do not agree.
     Unsound,
     /// 3: a page is outside the page table, or lacks the right.
-    Page,
+    Rights,
     /// 4: the run or the transfer is too long, or the register is not 1 to 31.
-    Range,
+    TooMuch,
     /// 5: the image is under 24 bytes, or its edition is not 1.
-    NoImage,
+    Edition,
     /// 6: a number of the image's trailer, a rights byte or the label's length breaks its rule.
-    Trailer,
+    Format,
     /// 7: main memory or swap does not fit the image.
     Room,
+    /// A refusal that this wrapper has no name for.
+    Other(u32),
 }
 
+/// The refusals with a name, from 1 on.
+const NAMED: [Error; 7] =
+    [Error::Bound, Error::Unsound, Error::Rights, Error::TooMuch, Error::Edition, Error::Format, Error::Room];
+
 impl Error {
-    /// The number of the refusal, 1 to 7.
+    /// The number of the refusal.
     pub fn number(self) -> u32 {
         match self {
-            Error::Bounds => 1,
+            Error::Bound => 1,
             Error::Unsound => 2,
-            Error::Page => 3,
-            Error::Range => 4,
-            Error::NoImage => 5,
-            Error::Trailer => 6,
+            Error::Rights => 3,
+            Error::TooMuch => 4,
+            Error::Edition => 5,
+            Error::Format => 6,
             Error::Room => 7,
+            Error::Other(number) => number,
         }
     }
 
     /// The answer of a call: 0, or the number of a refusal.
     pub(crate) fn check(number: u32) -> Result<(), Self> {
-        Err(match number {
-            0 => return Ok(()),
-            1 => Error::Bounds,
-            2 => Error::Unsound,
-            3 => Error::Page,
-            4 => Error::Range,
-            5 => Error::NoImage,
-            6 => Error::Trailer,
-            7 => Error::Room,
-            _ => unreachable!("the library has no refusal {number}"),
-        })
+        if number == 0 {
+            return Ok(());
+        }
+        Err(NAMED.into_iter().find(|e| e.number() == number).unwrap_or(Error::Other(number)))
     }
 }
 
 impl fmt::Display for Error {
     fn fmt(&self, f: &mut fmt::Formatter) -> fmt::Result {
         let why = match self {
-            Error::Bounds => "a shape number or a memory's length breaks its bound",
+            Error::Bound => "a shape number or a memory's length breaks its bound",
             Error::Unsound => "registers, frame book and page table do not agree",
-            Error::Page => "a page is outside the page table, or lacks the right",
-            Error::Range => "the run or the transfer is too long, or the register is not 1 to 31",
-            Error::NoImage => "no console image of edition 1",
-            Error::Trailer => "a number, a rights byte or the label of the image breaks its rule",
+            Error::Rights => "a page is outside the page table, or lacks the right",
+            Error::TooMuch => "the run or the transfer is too long, or the register is not 1 to 31",
+            Error::Edition => "no console image of edition 1",
+            Error::Format => "a number, a rights byte or the label of the image breaks its rule",
             Error::Room => "main memory or swap does not fit the image",
+            Error::Other(_) => "this wrapper has no name for it",
         };
         write!(f, "refused {}: {why}", self.number())
     }

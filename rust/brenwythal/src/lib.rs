@@ -60,30 +60,39 @@ pub fn image(file: &[u8]) -> Result<Image, Error> {
     Ok(Image { ptl, start, frames })
 }
 
-/// Why a run ended. After the last three the registers are as before that instruction.
+/// Why a run ended. After stops 2 to 4 the registers are as before that instruction.
 #[derive(Clone, Copy, Debug, PartialEq, Eq)]
+#[non_exhaustive]
 pub enum Stop {
     /// The limit is used up.
     Limit,
     /// A trap, which is finished; its number.
     Trap(u32),
     /// Illegal memory; the virtual address.
-    Memory(u32),
+    IllegalMemory(u32),
     /// A misaligned access; the virtual address.
     Misaligned(u32),
     /// An illegal instruction; its word.
-    Instruction(u32),
+    IllegalInstruction(u32),
+    /// A stop that this wrapper has no name for.
+    Other {
+        /// Its number.
+        number: u32,
+        /// Its detail.
+        detail: u32,
+    },
 }
 
 impl Stop {
-    /// The stop's number, 0 to 4.
+    /// The stop's number.
     pub fn number(self) -> u32 {
         match self {
             Stop::Limit => 0,
             Stop::Trap(_) => 1,
-            Stop::Memory(_) => 2,
+            Stop::IllegalMemory(_) => 2,
             Stop::Misaligned(_) => 3,
-            Stop::Instruction(_) => 4,
+            Stop::IllegalInstruction(_) => 4,
+            Stop::Other { number, .. } => number,
         }
     }
 
@@ -92,9 +101,10 @@ impl Stop {
         match self {
             Stop::Limit => 0,
             Stop::Trap(detail)
-            | Stop::Memory(detail)
+            | Stop::IllegalMemory(detail)
             | Stop::Misaligned(detail)
-            | Stop::Instruction(detail) => detail,
+            | Stop::IllegalInstruction(detail)
+            | Stop::Other { detail, .. } => detail,
         }
     }
 
@@ -102,10 +112,10 @@ impl Stop {
         match number {
             0 => Stop::Limit,
             1 => Stop::Trap(detail),
-            2 => Stop::Memory(detail),
+            2 => Stop::IllegalMemory(detail),
             3 => Stop::Misaligned(detail),
-            4 => Stop::Instruction(detail),
-            _ => unreachable!("the library has no stop {number}"),
+            4 => Stop::IllegalInstruction(detail),
+            _ => Stop::Other { number, detail },
         }
     }
 }

@@ -88,19 +88,19 @@ fn stops() {
         assert_eq!(machine.record()[40..], before[40..]);
         (stop, stop.number(), stop.detail())
     };
-    assert_eq!(stop_of(0x8C01_1000, 0), (Stop::Memory(4096), 2, 4096));
-    assert_eq!(stop_of(0, 8192), (Stop::Memory(8192), 2, 8192));
+    assert_eq!(stop_of(0x8C01_1000, 0), (Stop::IllegalMemory(4096), 2, 4096));
+    assert_eq!(stop_of(0, 8192), (Stop::IllegalMemory(8192), 2, 8192));
     assert_eq!(stop_of(0x8C01_0002, 0), (Stop::Misaligned(2), 3, 2));
-    assert_eq!(stop_of(0xFFFF_FFFF, 0), (Stop::Instruction(0xFFFF_FFFF), 4, 0xFFFF_FFFF));
+    assert_eq!(stop_of(0xFFFF_FFFF, 0), (Stop::IllegalInstruction(0xFFFF_FFFF), 4, 0xFFFF_FFFF));
 }
 
 #[test]
 fn refusals() {
     let file = one_page();
-    assert_eq!(image(&[]), Err(Error::NoImage));
-    assert_eq!(Machine::load(&file[..23], 5).err(), Some(Error::NoImage));
-    assert_eq!(image(&console(&[(3, &[])], 0, 1)), Err(Error::Trailer));
-    assert_eq!(Machine::load(&console(&[(4, &[])], 0, 0), 5).err(), Some(Error::Trailer));
+    assert_eq!(image(&[]), Err(Error::Edition));
+    assert_eq!(Machine::load(&file[..23], 5).err(), Some(Error::Edition));
+    assert_eq!(image(&console(&[(3, &[])], 0, 1)), Err(Error::Format));
+    assert_eq!(Machine::load(&console(&[(4, &[])], 0, 0), 5).err(), Some(Error::Format));
     for pages in [0, 2, 65, usize::MAX] {
         assert_eq!(Machine::load(&file, pages).err(), Some(Error::Room));
     }
@@ -109,14 +109,14 @@ fn refusals() {
     let mut machine = Machine::load(&file, 5).unwrap();
     assert_eq!(machine.run(0), Ok(Ran { stop: Stop::Limit, finished: 0, loads: 0 }));
     let fresh = machine.clone();
-    assert_eq!(machine.run(1_000_001), Err(Error::Range));
-    assert_eq!(machine.read(0, &mut [0; 257]), Err(Error::Range));
-    assert_eq!(machine.write(0, &[0; 257]), Err(Error::Range));
-    assert_eq!(machine.reply(0, 1), Err(Error::Range));
-    assert_eq!(machine.reply(32, 1), Err(Error::Range));
-    assert_eq!(machine.write(4000, &[0; 97]), Err(Error::Page));
-    assert_eq!(machine.read(u32::MAX, &mut [0]), Err(Error::Page));
-    assert_eq!(machine.view(1), Err(Error::Page));
+    assert_eq!(machine.run(1_000_001), Err(Error::TooMuch));
+    assert_eq!(machine.read(0, &mut [0; 257]), Err(Error::TooMuch));
+    assert_eq!(machine.write(0, &[0; 257]), Err(Error::TooMuch));
+    assert_eq!(machine.reply(0, 1), Err(Error::TooMuch));
+    assert_eq!(machine.reply(32, 1), Err(Error::TooMuch));
+    assert_eq!(machine.write(4000, &[0; 97]), Err(Error::Rights));
+    assert_eq!(machine.read(u32::MAX, &mut [0]), Err(Error::Rights));
+    assert_eq!(machine.view(1), Err(Error::Rights));
     assert_eq!(machine.read(u32::MAX, &mut []), Ok(()));
     assert_eq!(machine.write(u32::MAX, &[]), Ok(()));
     assert!(machine == fresh);
@@ -128,9 +128,9 @@ fn refusals() {
 fn parts_that_do_not_fit() {
     let (record, main, swap) = Machine::load(&one_page(), 3).unwrap().into_parts();
     let mut empty = Machine::from_parts(record, Vec::new(), Vec::new());
-    assert_eq!(empty.run(1), Err(Error::Bounds));
-    assert_eq!(empty.read(0, &mut []), Err(Error::Bounds));
-    assert_eq!(empty.view(0), Err(Error::Bounds));
+    assert_eq!(empty.run(1), Err(Error::Bound));
+    assert_eq!(empty.read(0, &mut []), Err(Error::Bound));
+    assert_eq!(empty.view(0), Err(Error::Bound));
     assert_eq!(empty.reply(31, 9), Ok(()));
     assert_eq!(empty.registers()[31], 9);
     let mut crooked = record;
@@ -145,12 +145,12 @@ fn parts_that_do_not_fit() {
 fn errors_say_their_number() {
     assert_eq!(Error::Unsound.to_string(), "refused 2: registers, frame book and page table do not agree");
     let all = [
-        Error::Bounds,
+        Error::Bound,
         Error::Unsound,
-        Error::Page,
-        Error::Range,
-        Error::NoImage,
-        Error::Trailer,
+        Error::Rights,
+        Error::TooMuch,
+        Error::Edition,
+        Error::Format,
         Error::Room,
     ];
     assert!(all.iter().zip(1..).all(|(error, number)| error.number() == number));

@@ -1,43 +1,49 @@
 -- `attempt`: DPC misaligned, the fetch illegal, the fetch faults, the word is obeyed.
-use mathlib.Core.Path.{_∙_}
+use mathlib.Core.Path.{refl}
 use mathlib.Core.Bool.{false}
-use Rattle.model.specs.Attempt.{word}
+use Rattle.model.specs.Attempt.{word, attempt}
 use Rattle.dlx.proofs.Fields.{register-below}
-use Rattle.cpu.proofs.Ways.{inside, transfer-odd, transfer-illegal, transfer-fault, fetch, attempt-at}
+use Rattle.cpu.specs.Reach.{after}
+use Rattle.cpu.proofs.Ways.{inside, reach-odd, reach-even, transfers, attempt-at}
 use borrow.Author.Needs.{needs}
 use Rattle.cpu.proofs.attempt.Statement.{statement}
 use Rattle.cpu.proofs.attempt.Tie as tie
 
 returns : tie.Need-returns
-returns c = transfer-odd _ _ _ _ false word _ _ (search needs) ∙ fetch _ _ _ _
+unfolding attempt after
+returns c = transfers _ _ _ _ false word _ _ _ (reach-odd 4 _ _ (search needs))
 
 word-at-requires : tie.Need-word-at-requires
 word-at-requires c κs =
     let here = c .before .before in
-    inside _ _ (here .before .before .before .before .before .before .pre .0) false word _ _ (here .before .before .reach .ensures)
-    _ (here .a .given .1) (search needs)
+    inside _ _ (here .before .before .before .before .before .before .pre .0) false word _ _
+    (reach-even 4 _ _ (search needs) _ (here .before .before .locate .ensures) _ (here .a .given .1)) _ refl
 
 obey-requires : tie.Need-obey-requires
 obey-requires c κs =
-    let start = c .before .before .before .before .before .before .before .before .before .before .before .before .before in
-    (start .pre .0, register-below _ _ _ _ (c .before .before .plan .ensures))
+    let planned = c .before .before in
+    let here = planned .before .before .before .before .before in
+    (here .before .before .before .before .before .before .pre .0, register-below _ _ _ _ (planned .plan .ensures))
 
 returns-2 : tie.Need-returns-2
+unfolding attempt after
 returns-2 c =
-    transfer-illegal _ _ _ _ false word _ _ (search needs) _ (c .before .before .reach .ensures) (c .enum-told .given .1)
-    ∙ fetch _ _ _ _
+    transfers _ _ _ _ false word _ _ _
+    (reach-even 4 _ _ (search needs) _ (c .before .before .locate .ensures) _ (c .enum-told .given .1))
 
 returns-3 : tie.Need-returns-3
+unfolding attempt after
 returns-3 c =
-    transfer-fault _ _ _ _ false word _ _ (search needs) _ (c .before .before .reach .ensures) (c .enum-told2 .given .1)
-    ∙ fetch _ _ _ _
+    transfers _ _ _ _ false word _ _ _
+    (reach-even 4 _ _ (search needs) _ (c .before .before .locate .ensures) _ (c .enum-told2 .given .1))
 
 returns-4 : tie.Need-returns-4
 returns-4 c =
-    let here = c .before .before .before .before .before .before .before .before .before .before in
-    attempt-at _ _ _ _ (search needs) _ (here .before .before .reach .ensures) _ (here .a .given .1) _
-    (c .before .before .before .before .before .before .before .word-at .ensures) _
-    (c .before .before .before .before .before .plan .ensures) _ (c .before .before .obey .ensures)
+    let obeyed = c .before .before in
+    let planned = obeyed .before .before .before in
+    let here = planned .before .before .before .before .before in
+    attempt-at _ _ _ _ _ (reach-even 4 _ _ (search needs) _ (here .before .before .locate .ensures) _ (here .a .given .1)) _
+    (planned .before .before .word-at .ensures) _ (planned .plan .ensures) _ (obeyed .obey .ensures)
 
 pub attempt-spec : {M : Type 1} → statement M
 attempt-spec =

@@ -32,37 +32,44 @@ returns-2 c = rw (c .before .before .before .t .given .1, c .write .ensures)
 
 returns-3 : tie.Need-returns-3
 unfolding obey
-returns-3 c = rw (c .before .before .before .before .t2 .given .1) (c .load-byte .ensures)
+returns-3 c = rw (c .before .before .before .before .before .t2 .given .1, c .ended .ensures) (c .before .load-byte .ensures _)
 
 returns-4 : tie.Need-returns-4
 unfolding obey
-returns-4 c = rw (c .before .before .before .before .t3 .given .1) (c .load-half .ensures)
+returns-4 c = rw (c .before .before .before .before .before .t3 .given .1, c .ended2 .ensures) (c .before .load-half .ensures _)
 
 returns-5 : tie.Need-returns-5
 unfolding obey
-returns-5 c = rw (c .before .before .before .before .t4 .given .1) (c .load-word .ensures)
+returns-5 c = rw (c .before .before .before .before .before .t4 .given .1, c .ended3 .ensures) (c .before .load-word .ensures _)
 
 returns-6 : tie.Need-returns-6
 unfolding obey
-returns-6 c = rw (c .before .before .before .before .before .t5 .given .1) (c .before .before .store-byte .ensures _)
+returns-6 c =
+    let stored = c .before .before .before in
+    rw (stored .before .before .before .t5 .given .1, c .ended4 .ensures) (stored .store-byte .ensures _ _)
 
 returns-7 : tie.Need-returns-7
 unfolding obey
-returns-7 c = rw (c .before .before .before .before .before .t6 .given .1) (c .before .before .store-half .ensures _)
+returns-7 c =
+    let stored = c .before .before .before in
+    rw (stored .before .before .before .t6 .given .1, c .ended5 .ensures) (stored .store-half .ensures _ _)
 
 returns-8 : tie.Need-returns-8
 unfolding obey
-returns-8 c = rw (c .before .before .before .before .before .t7 .given .1) (c .before .before .store-word .ensures _)
+returns-8 c =
+    let stored = c .before .before .before in
+    rw (stored .before .before .before .t7 .given .1, c .ended6 .ensures) (stored .store-word .ensures _ _)
 
 returns-9 : tie.Need-returns-9
 unfolding obey
-returns-9 c = rw (c .before .before .t8 .given .1, c .on .ensures)
+returns-9 c = rw (c .before .before .t8 .given .1, c .pcs-onward .ensures)
 
 pub obey-spec : {M : Type 1} → statement M
 obey-spec =
     tie.close
-    (tie.spec (λ c. search needs) (λ c. search needs) write-requires (λ c. search needs) load-byte-requires (λ c. search needs)
-    load-half-requires (λ c. search needs) load-word-requires (λ c. search needs) (λ c κs. search needs) (λ c. search needs)
-    (λ c κs. search needs) (λ c. search needs) (λ c κs. search needs) (λ c. search needs) (λ c κs. search needs) returns returns-2
-    (λ c. search needs) returns-3 (λ c. search needs) returns-4 (λ c. search needs) returns-5 (λ c. search needs) returns-6
-    (λ c. search needs) returns-7 (λ c. search needs) returns-8 returns-9)
+    (tie.spec (λ c. search needs) (λ c. search needs) write-requires (λ c. search needs) load-byte-requires (λ c κs. search needs)
+    (λ c. search needs) load-half-requires (λ c κs. search needs) (λ c. search needs) load-word-requires (λ c κs. search needs)
+    (λ c. search needs) (λ c κs. search needs) (λ c κs. search needs) (λ c. search needs) (λ c κs. search needs)
+    (λ c κs. search needs) (λ c. search needs) (λ c κs. search needs) (λ c κs. search needs) (λ c. search needs)
+    (λ c κs. search needs) returns returns-2 (λ c. search needs) returns-3 (λ c. search needs) returns-4 (λ c. search needs)
+    returns-5 (λ c. search needs) returns-6 (λ c. search needs) returns-7 (λ c. search needs) returns-8 returns-9)

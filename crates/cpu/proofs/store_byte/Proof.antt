@@ -1,8 +1,8 @@
--- `store_byte`: illegal, a fault, at a place. A byte is never misaligned.
+-- `store_byte`: at a place, or not.
+use mathlib.Core.Path.{refl}
 use mathlib.Core.Bool.{true}
-use native.Mathlib.Omega.{arith}
-use Rattle.model.specs.Attempt.{byte, storing}
-use Rattle.cpu.proofs.Ways.{inside, transfer-illegal, transfer-fault, storing-at}
+use Rattle.model.specs.Attempt.{byte, obeyStore}
+use Rattle.cpu.proofs.Ways.{elsewhere, inside, transfer-ended, store-at}
 use borrow.Author.Needs.{needs}
 use Rattle.cpu.proofs.store_byte.Statement.{statement}
 use Rattle.cpu.proofs.store_byte.Tie as tie
@@ -10,25 +10,20 @@ use Rattle.cpu.proofs.store_byte.Tie as tie
 put-byte-requires : tie.Need-put-byte-requires
 put-byte-requires c κs =
     let here = c .before .before in
-    inside _ _ (here .before .before .before .before .before .pre) true byte _ _ (here .before .before .locate .ensures) _
-    (here .a .given .1) (omega arith)
+    inside _ _ (here .before .before .before .before .before .pre) true byte _ _ (here .before .before .reach .ensures) _ (here .r .given .1)
 
 returns : tie.Need-returns
-unfolding storing
-returns c gpr = transfer-illegal _ _ _ _ _ _ _ _ (omega arith) _ (c .before .before .locate .ensures) (c .enum-told .given .1)
+returns c p gpr =
+    let here = c .before .before .before .before .before in
+    store-at _ _ _ _ byte _ _ _ (here .before .before .reach .ensures) _ (here .r .given .1) _
+    (c .before .before .put-byte .ensures)
 
 returns-2 : tie.Need-returns-2
-unfolding storing
-returns-2 c gpr = transfer-fault _ _ _ _ _ _ _ _ (omega arith) _ (c .before .before .locate .ensures) (c .enum-told2 .given .1)
-
-returns-3 : tie.Need-returns-3
-returns-3 c gpr =
-    let here = c .before .before .before .before .before .before in
-    storing-at _ _ _ _ byte _ _ (omega arith) _ (here .before .before .locate .ensures) _ (here .a .given .1) _
-    (c .before .before .before .put-byte .ensures) _ (c .on .ensures)
+unfolding obeyStore
+returns-2 c p gpr =
+    transfer-ended _ _ _ _ true byte _ _ _ (c .before .reach .ensures) (λ i e. elsewhere refl (rw e at (c .match .keys2)))
 
 pub store-byte-spec : {M : Type 1} → statement M
 store-byte-spec =
     tie.close
-    (tie.spec (λ c κs. search needs) (λ c. search needs) (λ c. search needs) (λ c. search needs) put-byte-requires
-    (λ c κs. search needs) (λ c. search needs) returns (λ c. search needs) returns-2 (λ c. search needs) returns-3)
+    (tie.spec (λ c κs. search needs) (λ c. search needs) put-byte-requires (λ c. search needs) returns (λ c. search needs) returns-2)

@@ -40,13 +40,15 @@ loop-again c =
 
 same-length : tie.Need-same-length Inv-loop μ-loop
 same-length c =
-    let leg = c .before .before .before .before .before .before .before .before in
+    let missed = c .before .before .before in
+    let leg = missed .before .before .before .before .before in
     let inv = leg .before .before .before .before .before .before .loop .inv in
     leg-on _ _ _ _ _ _ _ _ (inv .0) (inv .1) _ _ _ (leg .walk .ensures) .size .main-long
 
 same-length-2 : tie.Need-same-length-2 Inv-loop μ-loop
 same-length-2 c =
-    let leg = c .before .before .before .before .before .before .before .before in
+    let missed = c .before .before .before in
+    let leg = missed .before .before .before .before .before in
     let inv = leg .before .before .before .before .before .before .loop .inv in
     leg-on _ _ _ _ _ _ _ _ (inv .0) (inv .1) _ _ _ (leg .walk .ensures) .size .swap-long
 
@@ -65,7 +67,13 @@ load-requires c κs =
     leg-ready _ _ _ _ _ _ _ _ (inv .0) (inv .1) _ _ _ (leg .walk .ensures) _ (missed .o .given .1) _ (c .page-of .ensures)
 
 add-loads : tie.Need-add-loads Inv-loop μ-loop
-add-loads c = omega (arith, c .before .before .before .before .before .before .before .before .if1 .left, c .before .before .before .before .before .before .before .before .before .before .before .before .before .before .before .before .before .before .before .before .before .before .before .before .pre .1)
+add-loads c =
+    let page = c .before .before .before .before .before in
+    let tested = page .before .before .before in
+    let missed = tested .before .before in
+    let leg = missed .before .before .before .before .before in
+    let loop = leg .before .before .before .before .before .before in
+    omega (arith, tested .if1 .left, loop .before .before .before .pre .1)
 
 loop-again-2 : tie.Need-loop-again-2 Inv-loop μ-loop
 loop-again-2 c =

@@ -31,10 +31,11 @@ attempt-requires c κs = let u = c .before .before .before .loop .inv .0 in (u .
 
 returns : tie.Need-returns Inv-loop μ-loop
 returns c =
-    let tried = c .before .before .before .before .before .before .before .before in
+    let done = c .before .before .before .before in
+    let tried = done .before .before .before .before in
     let turn = tried .before .before .before in
     rw (c .pause .ensures)
-    (left-between _ _ _ _ _ _ (turn .before .loop .inv .0) (search needs) _ _ _ (tried .attempt .ensures) _ (c .before .before .before .before .o .given .1))
+    (left-between _ _ _ _ _ _ (turn .before .loop .inv .0) (search needs) _ _ _ (tried .attempt .ensures) _ (done .o .given .1))
 
 loop-again : tie.Need-loop-again Inv-loop μ-loop
 loop-again c =

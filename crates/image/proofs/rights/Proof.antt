@@ -1,21 +1,29 @@
--- `rights`: the section of an accepted image, or an empty part.
-use Rattle.image.proofs.Accepted.{some-rights, no-rights}
-use mathlib.Core.Path.{refl, sym, _∙_}
-use borrow.Author.Needs.{needs}
-use Rattle.image.proofs.rights.Statement.{statement}
-use Rattle.image.proofs.rights.Tie as tie
+-- `rights` meets its contract: the walk of `ByHand`, at `at_hand::rights`.
+use contract.Running.{givenOf, tables, tablesOf}
+use denote.Triple.Spec.{tripleOf}
+use denote.Triple.Table.{entered, cited}
+use Rattle.model.specs.Image.{ImageOutcome}
+use Rattle.image.specs.Sections.{rightsByAnswer}
+use Rattle.image.proofs.Section.{section}
+use Rattle.image.proofs.ByHand.{file-meets}
+use Rattle.image.proofs.at_hand.keep as new
+use Rattle.image.proofs.at_hand.keep.Symbol as new-def
+use Rattle.image.proofs.at_hand.keep.Symbol.{name as #new}
+use Rattle.image.proofs.at_hand.keep.Met as new-thm
+use Rattle.image.proofs.at_hand.rights as next
+use Rattle.image.proofs.at_hand.rights.Symbol as next-def
+use Rattle.image.proofs.at_hand.rights.Symbol.{name as #next}
+use Rattle.image.proofs.at_hand.rights.Met as next-thm
+use Rattle.image.proofs.rights.Key.{name as #this}
+use Rattle.image.proofs.rights as this
+use Rattle.image.proofs.rights.Statement as stated
+use Rattle.image.proofs.rights.Code as code
 
-returns : tie.Need-returns
-returns c =
-    let k = c .before .before in
-    (c .rights-of .ensures .0 ∙ some-rights _ _ _ _ (sym (k .before .before .answer .ensures) ∙ k .ptl .given .1), c .rights-of .ensures .1)
-
-returns-2 : tie.Need-returns-2
-returns-2 c =
-    (no-rights _ _ (sym (c .before .before .before .answer .ensures) ∙ c .before .enum-told .given .1), record { block = refl; low = search needs; high = search needs })
-
-pub rights-spec : {M : Type 1} → statement M
-rights-spec =
-    tie.close
-    (tie.spec (λ c κs. search needs) (λ c. search needs) (λ c κs. search needs) (λ c. search needs) (λ c. search needs) returns
-    returns-2)
+pub rights-spec : {M : Type 1} → stated.statement M
+unfolding code.routine tablesOf
+rights-spec 𝓤 H 𝓜 𝓖 𝓡 =
+    entered 𝓤 H (tripleOf 𝓤 H (𝓖 .A) this.signature (this.spec 𝓤 H (𝓖 .A) (𝓜 .mem) (𝓡 .run)))
+    (tables 𝓤 H 𝓜 𝓡 code.env .C) (tables 𝓤 H 𝓜 𝓡 code.env .Λ) #this code.function (code.unfolded 𝓤 H 𝓜 𝓡)
+    (file-meets 𝓤 H (𝓖 .A) (givenOf 𝓤 H 𝓜 𝓖) (section 𝓤 H (𝓖 .A) (givenOf 𝓤 H 𝓜 𝓖) rightsByAnswer (λ (o : ImageOutcome). o .rights)) #next (tablesOf 𝓤 H 𝓜 (tables 𝓤 H 𝓜 𝓡 code.env))
+    (cited 𝓤 H (tripleOf 𝓤 H (𝓖 .A) new.signature (new.spec 𝓤 H (𝓖 .A) (𝓜 .mem) (𝓡 .run))) 𝓜 𝓡 code.env #new new-def.routine code.calls-image·at-hand·keep (new-thm.met 𝓤 H 𝓜 𝓖 𝓡))
+    (cited 𝓤 H (tripleOf 𝓤 H (𝓖 .A) next.signature (next.spec 𝓤 H (𝓖 .A) (𝓜 .mem) (𝓡 .run))) 𝓜 𝓡 code.env #next next-def.routine code.calls-image·at-hand·rights (next-thm.met 𝓤 H 𝓜 𝓖 𝓡)))

@@ -2,24 +2,33 @@
 use borrow.Author.Needs.{needs}
 use Rattle.model.specs.State.{state}
 use Rattle.machine.proofs.Outcomes.{write-refused, write-done}
-use Rattle.machine.proofs.Verdicts.{host-leans}
+use Rattle.host.proofs.Leans.{host-leans}
 use Rattle.machine.proofs.Length.{held-length}
 use Rattle.machine.proofs.host_write.Statement.{statement}
 use Rattle.machine.proofs.host_write.Tie as tie
 
 write-bytes-requires : tie.Need-write-bytes-requires
 write-bytes-requires c κs =
-    let a = c .before .before .before .before .before .before .before .before .before .before .before .args in
-    host-leans (state (a .m) (a .main .now) (a .swap .now)) (held-length (a .m) _ (c .before .before .before .before .before .before .before .before .before .before .before .good .0)) _ _ _ _
-    (c .before .before .before .before .host-verdict .ensures) (c .before .before .enum-told .given .1)
+    let asked = c .before .before .before .before in
+    let start = asked .before .before .before .before .before .before .before in
+    let a = start .args in
+    host-leans (state (a .m) (a .main .now) (a .swap .now)) (held-length (a .m) _ (start .good .0)) _ _ _ _
+    (asked .host-verdict .ensures) (c .before .before .enum-told .given .1)
 
 returns : tie.Need-returns
-returns c = let a = c .before .before .before .before .before .before .before .before .before .before .args in write-refused (state (a .m) (a .main .now) (a .swap .now)) _ _ _ (c .before .before .before .host-verdict .ensures) _ (c .before .r .given .1)
+returns c =
+    let asked = c .before .before .before in
+    let a = asked .before .before .before .before .before .before .before .args in
+    write-refused (state (a .m) (a .main .now) (a .swap .now)) _ _ _ (asked .host-verdict .ensures) _ (c .before .r .given .1)
 
 returns-2 : tie.Need-returns-2
 returns-2 c =
-    let a = c .before .before .before .before .before .before .before .before .before .before .before .before .before .before .before .before .args in
-    write-done (state (a .m) (a .main .now) (a .swap .now)) _ _ _ (c .before .before .before .before .before .before .before .before .before .host-verdict .ensures) (c .before .before .before .before .before .before .before .enum-told .given .1) _ (c .before .before .before .before .write-bytes .ensures)
+    let wrote = c .before .before .before .before in
+    let told = wrote .before .before .before in
+    let asked = told .before .before in
+    let a = asked .before .before .before .before .before .before .before .args in
+    write-done (state (a .m) (a .main .now) (a .swap .now)) _ _ _ (asked .host-verdict .ensures) (told .enum-told .given .1) _
+    (wrote .write-bytes .ensures)
 
 pub host-write-spec : {M : Type 1} → statement M
 host-write-spec =

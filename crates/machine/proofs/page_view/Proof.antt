@@ -2,16 +2,18 @@
 use borrow.Author.Needs.{needs}
 use Rattle.model.specs.State.{state}
 use Rattle.machine.proofs.Outcomes.{view-refused, view-done}
-use Rattle.machine.proofs.Verdicts.{view-leans}
+use Rattle.host.proofs.Leans.{view-leans}
 use Rattle.machine.proofs.Length.{held-length}
 use Rattle.machine.proofs.page_view.Statement.{statement}
 use Rattle.machine.proofs.page_view.Tie as tie
 
 page-part-requires : tie.Need-page-part-requires
 page-part-requires c κs =
-    let a = c .before .before .before .before .before .before .args in
-    view-leans (state (a .m) (a .main .now) (a .swap .now)) (held-length (a .m) _ (c .before .before .before .before .before .before .good .0)) _ _
-    (c .before .before .view-verdict .ensures) (c .enum-told2 .given .1)
+    let asked = c .before .before in
+    let start = asked .before .before .before .before in
+    let a = start .args in
+    view-leans (state (a .m) (a .main .now) (a .swap .now)) (held-length (a .m) _ (start .good .0)) _ _
+    (asked .view-verdict .ensures) (c .enum-told2 .given .1)
 
 returns : tie.Need-returns
 returns c = view-refused _ _ _ (c .before .before .before .view-verdict .ensures) _ (c .before .enum-told .given .1)

@@ -1,19 +1,21 @@
--- `reply`: the register is 0, above 31, or set.
+-- `reply`: refused, or the register is set.
+use native.Mathlib.Omega.{arith}
 use borrow.Author.Needs.{needs}
-use Rattle.machine.proofs.Outcomes.{reply-low, reply-high, reply-done}
+use Rattle.host.proofs.Leans.{reply-leans}
+use Rattle.machine.proofs.Outcomes.{reply-refused, reply-done}
 use Rattle.machine.proofs.reply.Statement.{statement}
 use Rattle.machine.proofs.reply.Tie as tie
 
+element-write-replied : tie.Need-element-write-replied
+element-write-replied c = omega (arith, reply-leans _ _ (c .before .before .reply-verdict .ensures) (c .enum-told .given .1))
+
 returns : tie.Need-returns
-returns c = reply-low _ _ _ (search needs)
+returns c = reply-refused _ _ _ _ (c .before .before .before .reply-verdict .ensures) _ (c .before .r .given .1)
 
 returns-2 : tie.Need-returns-2
-returns-2 c = reply-high _ _ _ (search needs) (search needs)
-
-returns-3 : tie.Need-returns-3
-returns-3 c = reply-done _ _ _ (search needs) (search needs)
+returns-2 c = reply-done _ _ _ _ (c .before .before .reply-verdict .ensures) (c .enum-told .given .1)
 
 pub reply-spec : {M : Type 1} → statement M
 reply-spec =
     tie.close
-    (tie.spec returns returns-2 (λ c. search needs) (λ c. search needs) returns-3)
+    (tie.spec (λ c κs. search needs) (λ c. search needs) (λ c. search needs) (λ c. search needs) element-write-replied returns returns-2)

@@ -8,10 +8,9 @@ use Rattle.program.proofs.load_and_run.Tie as tie
 returns : tie.Need-returns
 returns c =
     let printed = c .before .before in
-    let answer = printed .before .before .before .before in
+    let answer = printed .before .before .before in
     let called = answer .before .before .before .before .before .before .before in
-    said (printed .refused-line .ensures)
-    (load-refused _ _ _ (called .load .ensures) _ _ (printed .before .refusal-number .ensures) (answer .verdict .given .1))
+    said (printed .refuse .ensures) (load-refused _ _ _ (called .load .ensures) _ (answer .verdict .given .1))
 
 returns-2 : tie.Need-returns-2
 returns-2 c =
@@ -23,6 +22,6 @@ returns-2 c =
 pub load-and-run-spec : {M : Type 1} → statement M
 load-and-run-spec =
     tie.close
-    (tie.spec (λ c κs. search needs) (λ c. search needs) (λ c κs. search needs) (λ c κs. search needs) (λ c. search needs)
-    (λ c κs. search needs) (λ c. search needs) (λ c. search needs) (λ c. search needs) returns (λ c. search needs) (λ c. search needs)
+    (tie.spec (λ c κs. search needs) (λ c. search needs) (λ c κs. search needs) (λ c. search needs) (λ c κs. search needs)
+    (λ c. search needs) (λ c. search needs) (λ c. search needs) returns (λ c. search needs) (λ c. search needs)
     (λ c. search needs) returns-2)

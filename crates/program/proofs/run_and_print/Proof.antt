@@ -8,10 +8,9 @@ use Rattle.program.proofs.run_and_print.Tie as tie
 returns : tie.Need-returns
 returns c =
     let printed = c .before .before in
-    let answer = printed .before .before .before .before in
+    let answer = printed .before .before .before in
     let called = answer .before .before .before .before .before .before in
-    said (printed .refused-line .ensures)
-    (run-refused _ _ _ (called .run .ensures) _ _ (printed .before .refusal-number .ensures) (answer .answer .given .1))
+    said (printed .refuse .ensures) (run-refused _ _ _ (called .run .ensures) _ (answer .answer .given .1))
 
 returns-2 : tie.Need-returns-2
 returns-2 c =
@@ -25,6 +24,6 @@ returns-2 c =
 pub run-and-print-spec : {M : Type 1} → statement M
 run-and-print-spec =
     tie.close
-    (tie.spec (λ c κs. search needs) (λ c. search needs) (λ c κs. search needs) (λ c κs. search needs) (λ c. search needs)
-    (λ c κs. search needs) (λ c κs. search needs) (λ c κs. search needs) (λ c. search needs) (λ c. search needs) (λ c. search needs) returns
+    (tie.spec (λ c κs. search needs) (λ c. search needs) (λ c κs. search needs) (λ c. search needs) (λ c κs. search needs)
+    (λ c κs. search needs) (λ c κs. search needs) (λ c. search needs) (λ c. search needs) (λ c. search needs) returns
     (λ c. search needs) (λ c. search needs) (λ c. search needs) returns-2)

@@ -18,18 +18,24 @@ returns-2 c =
 
 returns-3 : tie.Need-returns-3
 returns-3 c =
+    let at-if2 = c .before .before .before .before in
+    let at-same2 = at-if2 .before in
+    let at-if1 = at-same2 .before .before in
+    let at-same = at-if1 .before in
     c .alone3 .ensures
-    ∙ look-3 _ _ _ (sym (c .before .before .before .before .before .before .before .before .same .ensures) ∙ c .before .before
-    .before .before .before .before .before .if1 .left)
-    (sym (c .before .before .before .before .before .same2 .ensures) ∙ c .before .before .before .before .if2 .left)
+    ∙ look-3 _ _ _ (sym (at-same .same .ensures) ∙ at-if1 .if1 .left)
+    (sym (at-same2 .same2 .ensures) ∙ at-if2 .if2 .left)
     (sym (c .before .before .same3 .ensures) ∙ c .before .if3 .taken)
 
 returns-4 : tie.Need-returns-4
 returns-4 c =
+    let at-if2 = c .before .before .before .before in
+    let at-same2 = at-if2 .before in
+    let at-if1 = at-same2 .before .before in
+    let at-same = at-if1 .before in
     c .disturb .ensures
-    ∙ look-4 _ _ _ (sym (c .before .before .before .before .before .before .before .before .same .ensures) ∙ c .before .before
-    .before .before .before .before .before .if1 .left)
-    (sym (c .before .before .before .before .before .same2 .ensures) ∙ c .before .before .before .before .if2 .left)
+    ∙ look-4 _ _ _ (sym (at-same .same .ensures) ∙ at-if1 .if1 .left)
+    (sym (at-same2 .same2 .ensures) ∙ at-if2 .if2 .left)
     (sym (c .before .before .same3 .ensures) ∙ c .before .if3 .left)
 
 pub look-spec : {M : Type 1} → statement M

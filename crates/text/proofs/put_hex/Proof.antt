@@ -52,8 +52,9 @@ loop-less c = omega arith
 
 loop-again : tie.Need-loop-again Inv-loop μ-loop
 loop-again c =
-    let a = c .before .before .before .before .before .before .before .before .args in
-    let v = c .before .before .before .before .before .loop in (
+    let turn = c .before .before .before .before .before in
+    let v = turn .loop in
+    let a = turn .before .before .before .args in (
       omega arith,
       omega arith,
       hex-step (a .bytes .now) (v .i) _ _ (omega arith) (omega arith) (c .before .before .hex-digit .ensures) (c .hex-digit2 .ensures) (v .inv .2),

@@ -7,7 +7,9 @@ use Rattle.words.proofs.word_at.Tie as tie
 
 returns : tie.Need-returns
 returns c =
-    let a = c .before .before .before .before .before .before .before .before .before .args in
+    let at-wide = c .before .before .before .before .before .before in
+    let start = at-wide .before .before .before in
+    let a = start .args in
     omega (arith, number-four (a .m .now) (a .at))
 
 pub word-at-spec : {M : Type 1} → statement M

@@ -1,6 +1,6 @@
 -- `answer_words::put_three`: a store to each place.
 use mathlib.Core.List.{[], _∷_}
-use Rattle.capi.proofs.Parts.{all-set}
+use Rattle.capi.proofs.Numbers.{all-set}
 use borrow.Author.Needs.{needs}
 use Rattle.capi.proofs.answer_words.put_three.Statement.{statement}
 use Rattle.capi.proofs.answer_words.put_three.Tie as tie

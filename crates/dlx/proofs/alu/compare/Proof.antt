@@ -7,18 +7,20 @@ use Rattle.dlx.proofs.alu.compare.Statement.{statement}
 use Rattle.dlx.proofs.alu.compare.Tie as tie
 
 returns : tie.Need-returns
-returns c = compared-same (c .before .args .c) (c .before .args .x) (c .before .args .y) (omega arith) (omega arith) (c .if1 .taken)
+returns c =
+    let a = c .before .args in
+    compared-same (a .c) (a .x) (a .y) (omega arith) (omega arith) (omega arith) (c .if1 .taken)
 
 returns-2 : tie.Need-returns-2
 returns-2 c =
     let a = c .before .before .before .args in
-    compared-less (a .c) (a .x) (a .y) (omega arith) (omega arith) (c .before .before .if1 .left)
+    compared-less (a .c) (a .x) (a .y) (omega arith) (omega arith) (omega arith) (c .before .before .if1 .left)
     (sym (c .before .less .ensures) ∙ c .if2 .taken)
 
 returns-3 : tie.Need-returns-3
 returns-3 c =
     let a = c .before .before .before .args in
-    compared-more (a .c) (a .x) (a .y) (omega arith) (omega arith) (c .before .before .if1 .left)
+    compared-more (a .c) (a .x) (a .y) (omega arith) (omega arith) (omega arith) (c .before .before .if1 .left)
     (sym (c .before .less .ensures) ∙ c .if2 .left)
 
 pub compare-spec : {M : Type 1} → statement M

@@ -12,23 +12,33 @@ home-of-requires c κs = (c .before .before .before .pre .0 .safe .fit, omega (a
 
 shared-slice-read-result : tie.Need-shared-slice-read-result
 shared-slice-read-result c =
-    let a = c .before .before .before .before .before .before .before .before .before .args in
-    main-in (a .s) (a .main .now) (a .swap .now) (c .before .before .before .before .before .before .before .before .before .pre .0) _ _ (c .before .before .before .before .before .before .page-of .ensures) (c .before .before .before .before .before .before .before .before .before .pre .1) _ (c .before .before .before .before .before .home-of .ensures) _
+    let home = c .before .before .before .before .before in
+    let start = home .before .before .before .before in
+    let a = start .args in
+    main-in (a .s) (a .main .now) (a .swap .now) (start .pre .0) _ _ (home .before .page-of .ensures) (start .pre .1) _ (home .home-of .ensures) _
     (c .before .before .before .p .given .1) _ (c .before .main-at .ensures)
 
 shared-slice-read-result-2 : tie.Need-shared-slice-read-result-2
 shared-slice-read-result-2 c =
-    let a = c .before .before .before .before .before .before .before .before .before .args in
-    swap-in (a .s) (a .main .now) (a .swap .now) (c .before .before .before .before .before .before .before .before .before .pre .0) _ _ (c .before .before .before .before .before .before .page-of .ensures) (c .before .before .before .before .before .before .before .before .before .pre .1) _ (c .before .before .before .before .before .home-of .ensures) _
+    let home = c .before .before .before .before .before in
+    let start = home .before .before .before .before in
+    let a = start .args in
+    swap-in (a .s) (a .main .now) (a .swap .now) (start .pre .0) _ _ (home .before .page-of .ensures) (start .pre .1) _ (home .home-of .ensures) _
     (c .before .before .before .p2 .given .1) _ (c .before .swap-at .ensures)
 
 returns : tie.Need-returns
 returns c =
-    main-byte _ _ _ (c .before .before .before .before .before .before .before .before .before .pre .0) _ _ (c .before .before .before .before .before .before .page-of .ensures) (c .before .before .before .before .before .before .before .before .before .pre .1) _ (c .before .before .before .before .before .home-of .ensures) _ (c .before .before .before .p .given .1) _ (c .before .main-at .ensures)
+    let home = c .before .before .before .before .before in
+    let start = home .before .before .before .before in
+    main-byte _ _ _ (start .pre .0) _ _ (home .before .page-of .ensures) (start .pre .1) _ (home .home-of .ensures) _
+    (c .before .before .before .p .given .1) _ (c .before .main-at .ensures)
 
 returns-2 : tie.Need-returns-2
 returns-2 c =
-    swap-byte _ _ _ (c .before .before .before .before .before .before .before .before .before .pre .0) _ _ (c .before .before .before .before .before .before .page-of .ensures) (c .before .before .before .before .before .before .before .before .before .pre .1) _ (c .before .before .before .before .before .home-of .ensures) _ (c .before .before .before .p2 .given .1) _ (c .before .swap-at .ensures)
+    let home = c .before .before .before .before .before in
+    let start = home .before .before .before .before in
+    swap-byte _ _ _ (start .pre .0) _ _ (home .before .page-of .ensures) (start .pre .1) _ (home .home-of .ensures) _
+    (c .before .before .before .p2 .given .1) _ (c .before .swap-at .ensures)
 
 pub flat-byte-spec : {M : Type 1} → statement M
 flat-byte-spec =

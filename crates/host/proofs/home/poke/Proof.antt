@@ -12,23 +12,33 @@ home-of-requires c κs = (c .before .before .before .before .pre .0 .safe .fit, 
 
 slice-write-main : tie.Need-slice-write-main
 slice-write-main c =
-    let a = c .before .before .before .before .before .before .before .before .before .args in
-    main-in (a .s) (a .main .now) (a .swap .now) (c .before .before .before .before .before .before .before .before .before .pre .0) _ _ (c .before .before .before .before .before .page-of .ensures) (c .before .before .before .before .before .before .before .before .before .pre .1) _ (c .before .before .before .before .home-of .ensures) _
+    let home = c .before .before .before .before in
+    let start = home .before .before .before .before .before in
+    let a = start .args in
+    main-in (a .s) (a .main .now) (a .swap .now) (start .pre .0) _ _ (home .before .page-of .ensures) (start .pre .1) _ (home .home-of .ensures) _
     (c .before .before .p .given .1) _ (c .main-at .ensures)
 
 slice-write-swap : tie.Need-slice-write-swap
 slice-write-swap c =
-    let a = c .before .before .before .before .before .before .before .before .before .args in
-    swap-in (a .s) (a .main .now) (a .swap .now) (c .before .before .before .before .before .before .before .before .before .pre .0) _ _ (c .before .before .before .before .before .page-of .ensures) (c .before .before .before .before .before .before .before .before .before .pre .1) _ (c .before .before .before .before .home-of .ensures) _
+    let home = c .before .before .before .before in
+    let start = home .before .before .before .before .before in
+    let a = start .args in
+    swap-in (a .s) (a .main .now) (a .swap .now) (start .pre .0) _ _ (home .before .page-of .ensures) (start .pre .1) _ (home .home-of .ensures) _
     (c .before .before .p2 .given .1) _ (c .swap-at .ensures)
 
 returns : tie.Need-returns
 returns c =
-    main-put _ _ _ (c .before .before .before .before .before .before .before .before .before .pre .0) _ _ (c .before .before .before .before .before .page-of .ensures) (c .before .before .before .before .before .before .before .before .before .pre .1) _ (c .before .before .before .before .home-of .ensures) _ (c .before .before .p .given .1) _ (c .main-at .ensures) _
+    let home = c .before .before .before .before in
+    let start = home .before .before .before .before .before in
+    main-put _ _ _ (start .pre .0) _ _ (home .before .page-of .ensures) (start .pre .1) _ (home .home-of .ensures) _
+    (c .before .before .p .given .1) _ (c .main-at .ensures) _
 
 returns-2 : tie.Need-returns-2
 returns-2 c =
-    swap-put _ _ _ (c .before .before .before .before .before .before .before .before .before .pre .0) _ _ (c .before .before .before .before .before .page-of .ensures) (c .before .before .before .before .before .before .before .before .before .pre .1) _ (c .before .before .before .before .home-of .ensures) _ (c .before .before .p2 .given .1) _ (c .swap-at .ensures) _
+    let home = c .before .before .before .before in
+    let start = home .before .before .before .before .before in
+    swap-put _ _ _ (start .pre .0) _ _ (home .before .page-of .ensures) (start .pre .1) _ (home .home-of .ensures) _
+    (c .before .before .p2 .given .1) _ (c .swap-at .ensures) _
 
 pub poke-spec : {M : Type 1} → statement M
 poke-spec =

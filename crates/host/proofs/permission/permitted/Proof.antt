@@ -4,8 +4,8 @@ use mathlib.Core.Path.{_≡_, ap, _∙_}
 use Prim.Native.Nat.{_≤_, _+_, _-_}
 use native.Mathlib.Omega.{arith}
 use borrow.Author.Needs.{needs}
-use Rattle.model.specs.Calls.{legal, permitted}
-use Rattle.model.specs.Translate.{translate}
+use Rattle.model.specs.Calls.{permitted}
+use Rattle.model.specs.Translate.{translate, legal}
 use Rattle.model.specs.Choice.{everyBelow}
 use Rattle.paging.proofs.Loops.{none-yet, one-more, fails, all-passed, failed, passed}
 use Rattle.host.proofs.Rights.{next-fits}
@@ -29,7 +29,9 @@ unfolding permitted
 returns c = fails _ _ _ (search needs) (failed _ _ (c .before .legal .ensures ∙ ap legal (c .before .before .locate .ensures)) (c .if1 .taken))
 
 loop-again : tie.Need-loop-again Inv-loop μ-loop
-loop-again c = (search needs, one-more _ _ (c .before .before .before .before .loop .inv .1) (passed _ _ (c .before .legal .ensures ∙ ap legal (c .before .before .locate .ensures)) (c .if1 .left)))
+loop-again c =
+    let asked = c .before .before in
+    (search needs, one-more _ _ (asked .before .before .loop .inv .1) (passed _ _ (c .before .legal .ensures ∙ ap legal (asked .locate .ensures)) (c .if1 .left)))
 
 returns-2 : tie.Need-returns-2 Inv-loop μ-loop
 unfolding permitted

@@ -5,7 +5,7 @@ use lib.ListN.{length}
 use borrow.Author.Needs.{needs}
 use Rattle.model.specs.Calls.{bytesFrom}
 use Rattle.words.proofs.Copies.{Copied, copied-none, copied-all}
-use Rattle.paging.specs.Ready.{memory}
+use Rattle.model.specs.State.{memory}
 use Rattle.host.proofs.Bytes.{from-next, length-from}
 use Rattle.host.proofs.transfer.read_bytes.Statement.{statement}
 use Rattle.host.proofs.transfer.read_bytes.Tie as tie
@@ -20,13 +20,17 @@ loop-holds : tie.Need-loop-holds Inv-loop μ-loop
 loop-holds c = (search needs, copied-none _ _)
 
 cast-flat-byte : tie.Need-cast-flat-byte Inv-loop μ-loop
-cast-flat-byte c = omega (arith, c .before .before .before .before .before .pre .1 (c .before .loop .i) (search needs), c .before .before .before .before .before .pre .0 .safe .fit .ptl-most)
+cast-flat-byte c =
+    let pre = c .before .before .before .before .before .pre in
+    omega (arith, pre .1 (c .before .loop .i) (search needs), pre .0 .safe .fit .ptl-most)
 
 add-flat-byte : tie.Need-add-flat-byte Inv-loop μ-loop
-add-flat-byte c = omega (arith, c .before .before .before .before .before .pre .1 (c .before .loop .i) (search needs), c .before .before .before .before .before .pre .0 .safe .fit .ptl-most)
+add-flat-byte c =
+    let pre = c .before .before .before .before .before .pre in
+    omega (arith, pre .1 (c .before .loop .i) (search needs), pre .0 .safe .fit .ptl-most)
 
 flat-byte-requires : tie.Need-flat-byte-requires Inv-loop μ-loop
-flat-byte-requires c κs = (c .before .before .before .before .before .pre .0, c .before .before .before .before .before .pre .1 _ (search needs))
+flat-byte-requires c κs = let pre = c .before .before .before .before .before .pre in (pre .0, pre .1 _ (search needs))
 
 loop-again : tie.Need-loop-again Inv-loop μ-loop
 loop-again c =

@@ -17,16 +17,28 @@ loop-holds : tie.Need-loop-holds Inv-loop μ-loop
 loop-holds c = writing-start _ _ _ _ _ (c .before .before .before .pre .0)
 
 cast-poke : tie.Need-cast-poke Inv-loop μ-loop
-cast-poke c = omega (arith, c .before .before .before .before .before .before .before .pre .1 (c .before .before .before .loop .i) (search needs), c .before .before .before .before .before .before .before .pre .0 .safe .fit .ptl-most)
+cast-poke c =
+    let turn = c .before .before .before in
+    let pre = turn .before .before .before .before .pre in
+    omega (arith, pre .1 (turn .loop .i) (search needs), pre .0 .safe .fit .ptl-most)
 
 add-poke : tie.Need-add-poke Inv-loop μ-loop
-add-poke c = omega (arith, c .before .before .before .before .before .before .before .pre .1 (c .before .before .before .loop .i) (search needs), c .before .before .before .before .before .before .before .pre .0 .safe .fit .ptl-most)
+add-poke c =
+    let turn = c .before .before .before in
+    let pre = turn .before .before .before .before .pre in
+    omega (arith, pre .1 (turn .loop .i) (search needs), pre .0 .safe .fit .ptl-most)
 
 poke-requires : tie.Need-poke-requires Inv-loop μ-loop
-poke-requires c κs = (c .before .before .before .before .loop .inv .lent, c .before .before .before .before .before .before .before .before .pre .1 _ (search needs))
+poke-requires c κs =
+    let turn = c .before .before .before .before in
+    (turn .loop .inv .reach, turn .before .before .before .before .pre .1 _ (search needs))
 
 loop-again : tie.Need-loop-again Inv-loop μ-loop
-loop-again c = writing-next _ _ _ _ _ _ _ _ (c .before .before .before .before .before .before .before .before .before .loop .inv) (search needs) (c .before .before .before .before .before .before .before .before .before .before .before .before .before .pre .1 _ (search needs)) _ _ (c .before .before .before .before .poke .ensures)
+loop-again c =
+    let poked = c .before .before .before .before in
+    let turn = poked .before .before .before .before .before in
+    writing-next _ _ _ _ _ _ _ _ (turn .loop .inv) (search needs) (turn .before .before .before .before .pre .1 _ (search needs)) _ _
+    (poked .poke .ensures)
 
 returns : tie.Need-returns Inv-loop μ-loop
 returns c = writing-done _ _ _ _ _ _ _ _ (c .before .loop .inv) (search needs)

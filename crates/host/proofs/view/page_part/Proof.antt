@@ -6,21 +6,31 @@ use Rattle.host.proofs.view.page_part.Tie as tie
 
 part-result-end : tie.Need-part-result-end
 part-result-end c =
-    let a = c .before .before .before .before .before .before .before .args in
-    main-within (a .s) (a .main .now) (a .swap .now) (c .before .before .before .before .before .before .before .pre .0) (a .page) (c .before .before .before .before .before .before .before .pre .1) _ (c .before .before .before .before .home-of .ensures) _
+    let home = c .before .before .before .before in
+    let start = home .before .before .before in
+    let a = start .args in
+    main-within (a .s) (a .main .now) (a .swap .now) (start .pre .0) (a .page) (start .pre .1) _ (home .home-of .ensures) _
     (c .before .before .p .given .1) _ (c .main-at .ensures)
 
 part-result-end-2 : tie.Need-part-result-end-2
 part-result-end-2 c =
-    let a = c .before .before .before .before .before .before .before .args in
-    swap-within (a .s) (a .main .now) (a .swap .now) (c .before .before .before .before .before .before .before .pre .0) (a .page) (c .before .before .before .before .before .before .before .pre .1) _ (c .before .before .before .before .home-of .ensures) _
+    let home = c .before .before .before .before in
+    let start = home .before .before .before in
+    let a = start .args in
+    swap-within (a .s) (a .main .now) (a .swap .now) (start .pre .0) (a .page) (start .pre .1) _ (home .home-of .ensures) _
     (c .before .before .p2 .given .1) _ (c .swap-at .ensures)
 
 returns : tie.Need-returns
-returns c = main-part _ _ _ (c .before .before .before .before .before .before .before .before .pre .0) _ (c .before .before .before .before .before .before .before .before .pre .1) _ (c .before .before .before .before .before .home-of .ensures) _ (c .before .before .before .p .given .1) _ (c .before .main-at .ensures)
+returns c =
+    let home = c .before .before .before .before .before in
+    let start = home .before .before .before in
+    main-part _ _ _ (start .pre .0) _ (start .pre .1) _ (home .home-of .ensures) _ (c .before .before .before .p .given .1) _ (c .before .main-at .ensures)
 
 returns-2 : tie.Need-returns-2
-returns-2 c = swap-part _ _ _ (c .before .before .before .before .before .before .before .before .pre .0) _ (c .before .before .before .before .before .before .before .before .pre .1) _ (c .before .before .before .before .before .home-of .ensures) _ (c .before .before .before .p2 .given .1) _ (c .before .swap-at .ensures)
+returns-2 c =
+    let home = c .before .before .before .before .before in
+    let start = home .before .before .before in
+    swap-part _ _ _ (start .pre .0) _ (start .pre .1) _ (home .home-of .ensures) _ (c .before .before .before .p2 .given .1) _ (c .before .swap-at .ensures)
 
 pub page-part-spec : {M : Type 1} → statement M
 page-part-spec =

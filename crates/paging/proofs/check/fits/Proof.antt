@@ -1,6 +1,5 @@
 -- `check::fits`: the row of tests.
-use Rattle.model.specs.Sound.{shapeTests, fits}
-use Rattle.paging.specs.Ready.{memory}
+use Rattle.model.specs.Sound.{fits}
 use Rattle.paging.proofs.Rows.{joined, chained, chained-passes}
 use borrow.Author.Needs.{needs}
 use Rattle.paging.proofs.check.fits.Statement.{statement}
@@ -8,9 +7,7 @@ use Rattle.paging.proofs.check.fits.Tie as tie
 
 returns : tie.Need-returns
 unfolding fits chained joined
-returns c =
-    let a = c .before .before .before .before .before .before .before .before .before .before .before .before .before .before .before .before .args in
-    chained-passes (shapeTests (a .s) (memory (a .main .now) (a .swap .now)))
+returns c = chained-passes _
 
 pub fits-spec : {M : Type 1} → statement M
 fits-spec =

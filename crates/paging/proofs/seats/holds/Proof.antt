@@ -11,15 +11,17 @@ returns c =
 
 returns-2 : tie.Need-returns-2
 returns-2 c =
-    let a = c .before .before .before .before .before .before .args in
-    holds-behind (a .s) (a .t2) (a .p) (a .x) (search needs) (search needs)
+    let framed = c .before in
+    let a = framed .before .before .before .before .args in
+    holds-behind (a .s) (a .t2) (a .p) (a .x) (framed .before .if1 .left) _ (framed .frame-of .ensures) (search needs)
 
 returns-3 : tie.Need-returns-3
 returns-3 c =
-    let a = c .before .before .before .before .before .before .before .before .before .args in
-    holds-there (a .s) (a .t2) (a .p) (a .x) (search needs) (search needs)
+    let framed = c .before .before .before .before in
+    let a = framed .before .before .before .before .args in
+    holds-there (a .s) (a .t2) (a .p) (a .x) (framed .before .if1 .left) _ (framed .frame-of .ensures) (search needs)
 
 pub holds-spec : {M : Type 1} → statement M
 holds-spec =
     tie.close
-    (tie.spec returns returns-2 (λ c. search needs) (λ c. search needs) (λ c. search needs) returns-3)
+    (tie.spec returns (λ c κs. search needs) returns-2 (λ c. search needs) (λ c. search needs) (λ c. search needs) returns-3)

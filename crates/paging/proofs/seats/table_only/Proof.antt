@@ -1,11 +1,12 @@
 -- `seats::table_only`: the first x entries are right.
-use mathlib.Core.Path.{_≡_}
+use mathlib.Core.Path.{_≡_, sym, ap, _∙_}
 use mathlib.Core.Bool.{true}
 use mathlib.Core.Logic.{⊎-elim}
 use Prim.Native.Nat.{_≤_, _-_}
+use native.Mathlib.Omega.{arith}
 use Rattle.model.specs.Choice.{everyBelow}
 use Rattle.model.specs.Pages.{virtual}
-use Rattle.paging.specs.Tests.{entryRight}
+use Rattle.model.specs.Sound.{entryRight}
 use Rattle.paging.proofs.Loops.{none-yet, one-more, fails, all-passed, failed, passed}
 use Rattle.paging.proofs.Resident.{right-away, right-here}
 use borrow.Author.Needs.{needs}
@@ -21,22 +22,31 @@ abbrev μ-loop : tie.MeasureT-loop
 loop-holds : tie.Need-loop-holds Inv-loop μ-loop
 loop-holds c = (search needs, none-yet _)
 
+entry-requires : tie.Need-entry-requires Inv-loop μ-loop
+entry-requires c κs = (search needs, omega (arith, ap (λ p. p .0) (c .virtual-page .ensures)))
+
 returns : tie.Need-returns Inv-loop μ-loop
 returns c =
-    let start = c .before .before .before .before .before .before .before .before .before in
+    let valid = c .before .before .before in
+    let read = valid .before in
+    let start = read .before .before .before .before .before .before in
     let a = start .args in
     fails _ (λ k. entryRight (a .s) (a .b) (a .main .now) (virtual k)) _ (search needs)
-    (failed _ _ (right-here (a .s) (a .b) (a .main .now) _ _ (c .before .before .before .before .entry .ensures) (start .pre .2)
-    (c .before .before .before .if2 .taken) _ (c .before .before .ppx .ensures) _ (c .before .holds .ensures)) (c .if3 .taken))
+    (sym (ap (entryRight (a .s) (a .b) (a .main .now)) (read .before .virtual-page .ensures))
+    ∙ failed _ _ (right-here (a .s) (a .b) (a .main .now) _ _ (read .entry .ensures) (start .pre .2) (valid .if2 .taken) _
+    (c .before .before .ppx .ensures) _ (c .before .holds .ensures)) (c .if3 .taken))
 
 loop-again : tie.Need-loop-again Inv-loop μ-loop
 loop-again c =
-    let start = c .before .before .before .before .before .before in
+    let read = c .before in
+    let turn = read .before .before .before .before in
+    let start = turn .before .before in
     let a = start .args in
-    let e = c .before .entry .ensures in (
+    let e = read .entry .ensures in (
       search needs,
-      one-more _ _ (c .before .before .before .before .loop .inv .1)
-          (⊎-elim
+      one-more _ _ (turn .loop .inv .1)
+          (sym (ap (entryRight (a .s) (a .b) (a .main .now)) (read .before .virtual-page .ensures))
+          ∙ ⊎-elim
           (λ w. passed _ _ (right-here (a .s) (a .b) (a .main .now) _ _ e (start .pre .2) (w .0 .taken) _ (w .1 .ensures) _ (w .2 .ensures)) (w .3 .left))
           (λ w. right-away (a .s) (a .b) (a .main .now) _ _ e (w .left))
           (c .if2 .came)),
@@ -48,5 +58,5 @@ returns-2 c = all-passed _ _ _ (c .before .before .loop .inv .1) (search needs) 
 pub table-only-spec : {M : Type 1} → statement M
 table-only-spec =
     tie.close
-    (tie.spec Inv-loop μ-loop loop-holds (λ c κs. search needs) (λ c κs. search needs) (λ c κs. search needs) returns
+    (tie.spec Inv-loop μ-loop loop-holds (λ c κs. search needs) entry-requires (λ c κs. search needs) (λ c κs. search needs) returns
     (λ c. search needs) (λ c. search needs) loop-again returns-2)

@@ -62,8 +62,10 @@ loop-less c = omega arith
 
 loop-again : tie.Need-loop-again Inv-loop μ-loop
 loop-again c =
-    let v = c .before .before .before .before .before .loop in
-    let a = c .before .before .before .before .before .before .before .before .args in
+    let at-loop = c .before .before .before .before .before in
+    let start = at-loop .before .before .before in
+    let v = at-loop .loop in
+    let a = start .args in
     let put = 16 * c .before .before .hex-value .result + c .hex-value2 .result in
     let e : put ≡ getD (bytesOf (a .pairs .now)) (v .k) 0 =
     rw (c .before .before .hex-value .ensures .0, c .hex-value2 .ensures .0) (sym (byte-at (a .pairs .now) (v .k) (omega arith)))

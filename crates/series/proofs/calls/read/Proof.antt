@@ -11,19 +11,23 @@ use Rattle.series.proofs.calls.read.Tie as tie
 
 returns : tie.Need-returns
 returns c =
-    let e = c .before .before .before .before .before .before .before .before .before .before .host-read .ensures in
+    let at-refusal-number = c .before .before .before in
+    let at-refusal = at-refusal-number .before .before .before in
+    let at-host-read = at-refusal .before .before .before .before in
+    let e = at-host-read .host-read .ensures in
     written-as (c .before .before .refused-line .ensures)
-    (verdict-refused (c .before .before .before .before .before .before .before .before .before .before .host-read .result) _ (ap
-    (λ (o : ReadOutcome). o .refused) e) _ (c .before .before .before .before .before .before .refusal .given .1) (c .before
-    .before .before .refusal-number .ensures))
+    (verdict-refused (at-host-read .host-read .result) _ (ap
+    (λ (o : ReadOutcome). o .verdict) e) _ (at-refusal .refusal .given .1) (at-refusal-number .refusal-number .ensures))
 
 returns-2 : tie.Need-returns-2
 returns-2 c =
-    let e = c .before .before .before .before .before .before .before .before .before .before .host-read .ensures in
+    let at-enum-told = c .before .before .before .before .before .before in
+    let at-host-read = at-enum-told .before .before .before .before in
+    let e = at-host-read .host-read .ensures in
     written-as (c .before .before .hex-line .ensures)
     (ap (λ (o : ReadOutcome). hexLine (readWord ++ (32 ∷ [])) (o .buffer)) e
-    ∙ verdict-granted (c .before .before .before .before .before .before .before .before .before .before .host-read .result) _
-    (ap (λ (o : ReadOutcome). o .refused) e) _ (c .before .before .before .before .before .before .enum-told .given .1))
+    ∙ verdict-granted (at-host-read .host-read .result) _
+    (ap (λ (o : ReadOutcome). o .verdict) e) _ (at-enum-told .enum-told .given .1))
 
 pub read-spec : {M : Type 1} → statement M
 read-spec =

@@ -8,20 +8,26 @@ use Rattle.series.proofs.calls.run.Tie as tie
 
 returns : tie.Need-returns
 returns c =
-    let b = c .before .before .before .before .before .before .before .before .before .before .before .before .before .run in (
+    let at-refusal-number = c .before .before .before in
+    let at-answer = at-refusal-number .before .before .before in
+    let at-run = at-answer .before .before .before .before .before .before .before in
+    let b = at-run .run in (
       written-as (c .before .before .refused-line .ensures)
-          (run-refused (b .result .answer) _ _ (b .ensures) (c .before .before .before .before .before .before .answer .given .1)
-          (c .before .before .before .refusal-number .ensures)),
+          (run-refused (b .result .answer) _ _ (b .ensures) (at-answer .answer .given .1)
+          (at-refusal-number .refusal-number .ensures)),
       ap (λ (o : RunOutcome). o .state) (b .ensures),
     )
 
 returns-2 : tie.Need-returns-2
 returns-2 c =
-    let b = c .before .before .before .before .before .before .before .before .before .before .before .before .before .before
-    .run in (
+    let at-stop-detail = c .before .before .before in
+    let at-stop-number = at-stop-detail .before in
+    let at-answer2 = at-stop-number .before .before .before in
+    let at-run = at-answer2 .before .before .before .before .before .before .before in
+    let b = at-run .run in (
       written-as (c .before .before .run-line .ensures)
-          (run-ran (b .result .answer) _ _ (b .ensures) (c .before .before .before .before .before .before .before .answer2
-          .given .1) (c .before .before .before .before .stop-number .ensures) (c .before .before .before .stop-detail
+          (run-ran (b .result .answer) _ _ (b .ensures) (at-answer2 .answer2
+          .given .1) (at-stop-number .stop-number .ensures) (at-stop-detail .stop-detail
           .ensures)),
       ap (λ (o : RunOutcome). o .state) (b .ensures),
     )

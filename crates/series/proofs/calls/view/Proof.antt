@@ -15,7 +15,9 @@ use Rattle.series.proofs.calls.view.Tie as tie
 
 hex-line-requires : tie.Need-hex-line-requires
 hex-line-requires c κs =
-    let a = c .before .before .before .before .before .before .before .before .before .args in
+    let at-view-answer = c .before .before .before .before .before in
+    let start = at-view-answer .before .before .before .before in
+    let a = start .args in
     omega (
       arith,
       ap length (c .before .before .page-view .ensures),
@@ -25,18 +27,20 @@ hex-line-requires c κs =
 
 returns : tie.Need-returns
 returns c =
+    let at-refusal-number = c .before .before .before in
+    let at-refusal = at-refusal-number .before .before .before in
+    let at-view-answer = at-refusal .before .before in
     written-as (c .before .before .refused-line .ensures)
-    (verdict-refused (c .before .before .before .before .before .before .before .before .view-answer .result) _ (c .before
-    .before .before .before .before .before .before .before .view-answer .ensures) _ (c .before .before .before .before
-    .before .before .refusal .given .1) (c .before .before .before .refusal-number .ensures))
+    (verdict-refused (at-view-answer .view-answer .result) _ (at-view-answer .view-answer .ensures) _ (at-refusal .refusal .given .1) (at-refusal-number .refusal-number .ensures))
 
 returns-2 : tie.Need-returns-2
 returns-2 c =
+    let at-page-view = c .before .before .before .before .before in
+    let at-enum-told = at-page-view .before in
+    let at-view-answer = at-enum-told .before .before in
     written-as (c .before .before .hex-line .ensures)
-    (ap (hexLine (viewWord ++ (32 ∷ []))) (c .before .before .before .before .before .page-view .ensures)
-    ∙ verdict-granted (c .before .before .before .before .before .before .before .before .view-answer .result) _ (c .before
-    .before .before .before .before .before .before .before .view-answer .ensures) _ (c .before .before .before .before
-    .before .before .enum-told .given .1))
+    (ap (hexLine (viewWord ++ (32 ∷ []))) (at-page-view .page-view .ensures)
+    ∙ verdict-granted (at-view-answer .view-answer .result) _ (at-view-answer .view-answer .ensures) _ (at-enum-told .enum-told .given .1))
 
 pub view-spec : {M : Type 1} → statement M
 view-spec =

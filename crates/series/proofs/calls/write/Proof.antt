@@ -9,7 +9,9 @@ use Rattle.series.proofs.calls.write.Tie as tie
 
 returns : tie.Need-returns
 returns c =
-    let e = c .before .before .before .before .before .before .before .before .before .before .host-write .ensures in
+    let at-swap = c .before .before .before .before .before .before .before in
+    let at-host-write = at-swap .before .before .before in
+    let e = at-host-write .host-write .ensures in
     (written-as (c .before .before .verdict-line .ensures) (ap (λ (o : StateOutcome). writeText o) e), ap (λ (o : StateOutcome). o .state) e)
 
 pub write-spec : {M : Type 1} → statement M

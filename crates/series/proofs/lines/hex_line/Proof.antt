@@ -5,8 +5,11 @@ use Rattle.series.proofs.lines.hex_line.Statement.{statement}
 use Rattle.series.proofs.lines.hex_line.Tie as tie
 
 returns : tie.Need-returns
-returns c = whole (joined (c .before .before .before .before .before .before .before .before .before .before .before .put
-    .ensures) (joined (c .before .before .before .before .before .before .before .put-hex .ensures .0) (c .before .before .put2
+returns c =
+    let at-put-hex = c .before .before .before .before .before .before .before in
+    let at-put = at-put-hex .before .before .before .before in
+    whole (joined (at-put .put
+    .ensures) (joined (at-put-hex .put-hex .ensures .0) (c .before .before .put2
     .ensures)))
 
 pub hex-line-spec : {M : Type 1} → statement M

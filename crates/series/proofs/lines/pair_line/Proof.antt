@@ -5,8 +5,11 @@ use Rattle.series.proofs.lines.pair_line.Statement.{statement}
 use Rattle.series.proofs.lines.pair_line.Tie as tie
 
 returns : tie.Need-returns
-returns c = whole (joined (c .before .before .before .before .before .before .before .before .before .before .before .put
-    .ensures) (joined (c .before .before .before .before .before .before .before .put-pair .ensures .0) (c .before .before .put2
+returns c =
+    let at-put-pair = c .before .before .before .before .before .before .before in
+    let at-put = at-put-pair .before .before .before .before in
+    whole (joined (at-put .put
+    .ensures) (joined (at-put-pair .put-pair .ensures .0) (c .before .before .put2
     .ensures)))
 
 pub pair-line-spec : {M : Type 1} → statement M

@@ -9,7 +9,7 @@ returns c =
     let last = c .before .before .before .before .before .before .before in
     let first = last .before .before .before .before in
     whole (joined (first .before .before .before .before .put .ensures) (joined (first .put-pair .ensures .0) (joined (last
-    .put-registers .ensures .0) (c .before .before .put2 .ensures))))
+    .put-all .ensures .0) (c .before .before .put2 .ensures))))
 
 pub registers-line-spec : {M : Type 1} → statement M
 registers-line-spec =

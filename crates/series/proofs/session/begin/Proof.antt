@@ -12,8 +12,11 @@ slice-aggregate-load c = sym (length-take-le (4096 * c .before .before .before .
     .before .before .before .before .before .before .before .args .main .now) (omega arith))
 
 slice-aggregate-load-2 : tie.Need-slice-aggregate-load-2
-slice-aggregate-load-2 c = sym (length-take-le (4096 * c .before .before .before .before .before .before .before .before .args
-    .ptl) (c .before .before .before .before .before .before .before .before .args .swap .now) (omega arith))
+slice-aggregate-load-2 c =
+    let at-shared-slice-known = c .before .before .before .before .before .before .before in
+    let start = at-shared-slice-known .before in
+    sym (length-take-le (4096 * start .args
+    .ptl) (start .args .swap .now) (omega arith))
 
 pub begin-spec : {M : Type 1} → statement M
 begin-spec =

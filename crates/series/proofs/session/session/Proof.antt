@@ -7,13 +7,12 @@ use Rattle.series.proofs.session.session.Tie as tie
 
 begin-requires : tie.Need-begin-requires
 begin-requires c κs =
-    let pre = c .before .before .before .before .before .before .before .before .before .before .before .before .before .before
-    .before .before .pre in
-    let few = few-pages (c .before .before .before .before .before .before .before .before .before .before .before .before
-    .before .before .before .before .args .file .now) (c .before .before .before .before .before .before .before .before
-    .read .result) (c .before .before .before .before .before .before .before .before .read .ensures) (c .before .before
-    .before .before .before .before .ptl .given .1) (c .before .before .before .before .before .before .before .before
-    .before .if1 .left) in
+    let at-ptl = c .before .before .before .before .before .before in
+    let at-read = at-ptl .before .before in
+    let at-if1 = at-read .before in
+    let start = at-if1 .before .before .before .before .before .before .before in
+    let pre = start .pre in
+    let few = few-pages (start .args .file .now) (at-read .read .result) (at-read .read .ensures) (at-ptl .ptl .given .1) (at-if1 .if1 .left) in
     (record { main-fits = omega arith; swap-fits = omega arith }, pre .0, pre .1, pre .2)
 
 pub session-spec : {M : Type 1} → statement M

@@ -8,13 +8,15 @@ use Rattle.series.proofs.session.turn.Tie as tie
 
 slice-aggregate-write-all : tie.Need-slice-aggregate-write-all
 slice-aggregate-write-all c =
-    let s = c .before .before .before .before .before .before .before .before .before .step in
+    let at-slice-known5 = c .before .before .before .before .before .before .before in
+    let at-step = at-slice-known5 .before .before in
+    let at-shared-slice-known = at-step .before .before .before .before .before .before .before in
+    let start = at-shared-slice-known .before .before .before in
+    let s = at-step .step in
     sym (length-take-le (s .result .filled) (s .last .1 .1 .1 .1 .1 .1 .0) (omega (
       arith,
       s .ensures .short,
-      c .before .before
-          .before .before .before .before .before .before .before .before .before .before .before .before .before .before .before
-          .before .before .pre .1 .out-long,
+      start .pre .1 .out-long,
     )))
 
 pub turn-spec : {M : Type 1} → statement M

@@ -17,25 +17,30 @@ slice-aggregate-read-2 c = sym (length-take-le (c .before .before .before .befor
     .before .before .before .before .before .before .before .args .swap .now) (omega arith))
 
 slice-aggregate-read-3 : tie.Need-slice-aggregate-read-3
-slice-aggregate-read-3 c = sym (length-take-le (c .before .before .before .before .before .before .before .before .args .n) (c
-    .before .before .before .before .before .before .before .before .args .spare .now) (omega arith))
+slice-aggregate-read-3 c =
+    let at-shared-slice-known = c .before .before .before .before .before .before .before in
+    let start = at-shared-slice-known .before in
+    sym (length-take-le (start .args .n) (start .args .spare .now) (omega arith))
 
 read-requires : tie.Need-read-requires
-read-requires c κs = omega (
-  arith,
-  length-take (c .before .before .before .before .before .before .before .before .before .args
-      .n) (c .before .before .before .before .before .before .before .before .before .args .spare .now),
-  c .before .before .before
-      .before .before .before .before .before .before .pre .1 .out-long,
-  c .before .before .before .before .before .before .before
-      .before .before .pre .3,
-)
+read-requires c κs =
+    let at-shared-slice-known2 = c .before .before .before .before .before .before .before in
+    let start = at-shared-slice-known2 .before .before in
+    omega (
+      arith,
+      length-take (start .args
+          .n) (start .args .spare .now),
+      start .pre .1 .out-long,
+      start .pre .3,
+    )
 
 returns : tie.Need-returns
 returns c =
-    let pre = c .before .before .before .before .before .before .before .before .before .before .before .before .before .before
-    .before .pre in
-    let written = within (c .before .before .before .before .before .read .ensures) in
+    let at-read = c .before .before .before .before .before in
+    let at-slice-known = at-read .before .before .before .before .before .before .before in
+    let start = at-slice-known .before .before .before in
+    let pre = start .pre in
+    let written = within (at-read .read .ensures) in
     record {
       lent = record { main-fits = omega (arith, pre .0 .main-fits); swap-fits = omega (arith, pre .0 .swap-fits) };
       short = omega (arith, pre .1 .out-long);

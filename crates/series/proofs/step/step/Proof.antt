@@ -8,13 +8,14 @@ use Rattle.series.proofs.step.step.Tie as tie
 
 read-requires : tie.Need-read-requires
 read-requires c κs =
-    let pre = c .before .before .before .before .before .before .before .before .before .before .before .before .before .pre in (
+    let at-va = c .before .before .before .before .before in
+    let at-parse = at-va .before .before in
+    let start = at-parse .before .before .before .before .before .before in
+    let pre = start .pre in (
       pre .0,
       pre .1,
       pre .2,
-      command-known (c .before .before .before .before .before .before .before .before .before .before
-          .before .before .before .args .line .now) (c .before .before .before .before .before .before .before .parse .ensures) (c
-          .before .before .before .before .before .va .given .1),
+      command-known (start .args .line .now) (at-parse .parse .ensures) (at-va .va .given .1),
     )
 
 sub-write : tie.Need-sub-write
@@ -26,33 +27,38 @@ sub-write c = omega (
 )
 
 part-write-start : tie.Need-part-write-start
-part-write-start c = omega (
-  arith,
-  command-known (c .before .before .before .before .before .before .before .before .before
-      .before .before .args .line .now) (c .before .before .before .before .before .parse .ensures) (c .before .before .before
-      .va2
-      .given .1) .0,
-  command-known (c .before .before .before .before .before .before .before .before .before .before .before .args
-      .line .now) (c .before .before .before .before .before .parse .ensures) (c .before .before .before .va2 .given .1) .1,
-)
+part-write-start c =
+    let at-va2 = c .before .before .before in
+    let at-parse = at-va2 .before .before in
+    let start = at-parse .before .before .before .before .before .before in
+    omega (
+      arith,
+      command-known (start .args .line .now) (at-parse .parse .ensures) (at-va2 .va2
+          .given .1) .0,
+      command-known (start .args
+          .line .now) (at-parse .parse .ensures) (at-va2 .va2 .given .1) .1,
+    )
 
 part-write-end : tie.Need-part-write-end
-part-write-end c = omega (
-  arith,
-  command-known (c .before .before .before .before .before .before .before .before .before .before
-      .before .args .line .now) (c .before .before .before .before .before .parse .ensures) (c .before .before .before .va2 .given
-      .1) .0,
-  command-known (c .before .before .before .before .before .before .before .before .before .before .before .args .line
-      .now) (c .before .before .before .before .before .parse .ensures) (c .before .before .before .va2 .given .1) .1,
-)
+part-write-end c =
+    let at-va2 = c .before .before .before in
+    let at-parse = at-va2 .before .before in
+    let start = at-parse .before .before .before .before .before .before in
+    omega (
+      arith,
+      command-known (start .args .line .now) (at-parse .parse .ensures) (at-va2 .va2 .given
+          .1) .0,
+      command-known (start .args .line
+          .now) (at-parse .parse .ensures) (at-va2 .va2 .given .1) .1,
+    )
 
 write-requires : tie.Need-write-requires
 write-requires c κs =
-    let pre = c .before .before .before .before .before .before .before .before .before .before .before .before .before .before
-    .pre in
-    let known = command-known (c .before .before .before .before .before .before .before .before .before .before .before .before
-    .before .before .args .line .now) (c .before .before .before .before .before .before .before .before .parse .ensures) (c
-    .before .before .before .before .before .before .va2 .given .1) in (
+    let at-va2 = c .before .before .before .before .before .before in
+    let at-parse = at-va2 .before .before in
+    let start = at-parse .before .before .before .before .before .before in
+    let pre = start .pre in
+    let known = command-known (start .args .line .now) (at-parse .parse .ensures) (at-va2 .va2 .given .1) in (
       pre .0,
       pre .1,
       pre .2,
@@ -60,9 +66,7 @@ write-requires c κs =
         arith,
         pre .3,
         known .1,
-        part-long (c .before .before .before .before .before .before .before
-            .before .before .before .before .before .before .before .args .line .now) (c .before .before .before .before .before
-            .before .va2 .given .0 .1 .0) (c .before .before .before .before .before .before .va2 .given .0 .1 .1 .0) (known .0)
+        part-long (start .args .line .now) (at-va2 .va2 .given .0 .1 .0) (at-va2 .va2 .given .0 .1 .1 .0) (known .0)
             (known .1),
       ),
     )
@@ -75,30 +79,33 @@ sub-poke c = omega (
 )
 
 part-poke-start : tie.Need-part-poke-start
-part-poke-start c = omega (
-  arith,
-  command-known (c .before .before .before .before .before .before .before .before .before
-      .before .args .line .now) (c .before .before .before .before .parse .ensures) (c .before .before .place .given .1) .1,
-  command-known (c .before .before .before .before .before .before .before .before .before .before .args .line .now) (c .before
-      .before .before .before .parse .ensures) (c .before .before .place .given .1) .2,
-)
+part-poke-start c =
+    let at-parse = c .before .before .before .before in
+    let start = at-parse .before .before .before .before .before .before in
+    omega (
+      arith,
+      command-known (start .args .line .now) (at-parse .parse .ensures) (c .before .before .place .given .1) .1,
+      command-known (start .args .line .now) (at-parse .parse .ensures) (c .before .before .place .given .1) .2,
+    )
 
 part-poke-end : tie.Need-part-poke-end
-part-poke-end c = omega (
-  arith,
-  command-known (c .before .before .before .before .before .before .before .before .before .before
-      .args .line .now) (c .before .before .before .before .parse .ensures) (c .before .before .place .given .1) .1,
-  command-known
-      (c .before .before .before .before .before .before .before .before .before .before .args .line .now) (c .before .before
-      .before .before .parse .ensures) (c .before .before .place .given .1) .2,
-)
+part-poke-end c =
+    let at-parse = c .before .before .before .before in
+    let start = at-parse .before .before .before .before .before .before in
+    omega (
+      arith,
+      command-known (start .args .line .now) (at-parse .parse .ensures) (c .before .before .place .given .1) .1,
+      command-known
+          (start .args .line .now) (at-parse .parse .ensures) (c .before .before .place .given .1) .2,
+    )
 
 poke-requires : tie.Need-poke-requires
 poke-requires c κs =
-    let pre = c .before .before .before .before .before .before .before .before .before .before .before .before .before .pre in
-    let known = command-known (c .before .before .before .before .before .before .before .before .before .before .before .before
-    .before .args .line .now) (c .before .before .before .before .before .before .before .parse .ensures) (c .before .before
-    .before .before .before .place .given .1) in (
+    let at-place = c .before .before .before .before .before in
+    let at-parse = at-place .before .before in
+    let start = at-parse .before .before .before .before .before .before in
+    let pre = start .pre in
+    let known = command-known (start .args .line .now) (at-parse .parse .ensures) (at-place .place .given .1) in (
       pre .0,
       pre .1 .out-long,
       omega arith,
@@ -106,9 +113,8 @@ poke-requires c κs =
         arith,
         pre .1 .main-long,
         known .0,
-        part-long (c .before .before .before .before .before .before .before .before
-            .before .before .before .before .before .args .line .now) (c .before .before .before .before .before .place .given .0
-            .1 .0) (c .before .before .before .before .before .place .given .0 .1 .1 .0) (known .1) (known .2),
+        part-long (start .args .line .now) (at-place .place .given .0
+            .1 .0) (at-place .place .given .0 .1 .1 .0) (known .1) (known .2),
       ),
     )
 
@@ -120,29 +126,32 @@ sub-poke-2 c = omega (
 )
 
 part-poke-start-2 : tie.Need-part-poke-start-2
-part-poke-start-2 c = omega (
-  arith,
-  command-known (c .before .before .before .before .before .before .before .before .before
-      .before .args .line .now) (c .before .before .before .before .parse .ensures) (c .before .before .place2 .given .1) .1,
-  command-known (c .before .before .before .before .before .before .before .before .before .before .args .line .now) (c .before
-      .before .before .before .parse .ensures) (c .before .before .place2 .given .1) .2,
-)
+part-poke-start-2 c =
+    let at-parse = c .before .before .before .before in
+    let start = at-parse .before .before .before .before .before .before in
+    omega (
+      arith,
+      command-known (start .args .line .now) (at-parse .parse .ensures) (c .before .before .place2 .given .1) .1,
+      command-known (start .args .line .now) (at-parse .parse .ensures) (c .before .before .place2 .given .1) .2,
+    )
 
 part-poke-end-2 : tie.Need-part-poke-end-2
-part-poke-end-2 c = omega (
-  arith,
-  command-known (c .before .before .before .before .before .before .before .before .before
-      .before .args .line .now) (c .before .before .before .before .parse .ensures) (c .before .before .place2 .given .1) .1,
-  command-known (c .before .before .before .before .before .before .before .before .before .before .args .line .now) (c .before
-      .before .before .before .parse .ensures) (c .before .before .place2 .given .1) .2,
-)
+part-poke-end-2 c =
+    let at-parse = c .before .before .before .before in
+    let start = at-parse .before .before .before .before .before .before in
+    omega (
+      arith,
+      command-known (start .args .line .now) (at-parse .parse .ensures) (c .before .before .place2 .given .1) .1,
+      command-known (start .args .line .now) (at-parse .parse .ensures) (c .before .before .place2 .given .1) .2,
+    )
 
 poke-requires-2 : tie.Need-poke-requires-2
 poke-requires-2 c κs =
-    let pre = c .before .before .before .before .before .before .before .before .before .before .before .before .before .pre in
-    let known = command-known (c .before .before .before .before .before .before .before .before .before .before .before .before
-    .before .args .line .now) (c .before .before .before .before .before .before .before .parse .ensures) (c .before .before
-    .before .before .before .place2 .given .1) in (
+    let at-place2 = c .before .before .before .before .before in
+    let at-parse = at-place2 .before .before in
+    let start = at-parse .before .before .before .before .before .before in
+    let pre = start .pre in
+    let known = command-known (start .args .line .now) (at-parse .parse .ensures) (at-place2 .place2 .given .1) in (
       pre .0,
       pre .1 .out-long,
       omega arith,
@@ -150,29 +159,31 @@ poke-requires-2 c κs =
         arith,
         pre .1 .swap-long,
         known .0,
-        part-long (c .before .before .before .before .before .before .before .before
-            .before .before .before .before .before .args .line .now) (c .before .before .before .before .before .place2 .given .0
-            .1 .0) (c .before .before .before .before .before .place2 .given .0 .1 .1 .0) (known .1) (known .2),
+        part-long (start .args .line .now) (at-place2 .place2 .given .0
+            .1 .0) (at-place2 .place2 .given .0 .1 .1 .0) (known .1) (known .2),
       ),
     )
 
 lend-requires : tie.Need-lend-requires
 lend-requires c κs =
-    let known = command-known (c .before .before .before .before .before .before .before .before .before .before .args .line
-    .now) (c .before .before .before .before .parse .ensures) (c .before .before .m .given .1) in (
+    let at-parse = c .before .before .before .before in
+    let start = at-parse .before .before .before .before .before .before in
+    let known = command-known (start .args .line
+    .now) (at-parse .parse .ensures) (c .before .before .m .given .1) in (
       record { main-fits = known .0; swap-fits = known .1 },
-      c .before .before .before .before .before .before .before .before
-          .before .before .pre .1 .out-long,
+      start .pre .1 .out-long,
     )
 
 cast-bad : tie.Need-cast-bad
-cast-bad c = omega (
-  arith,
-  command-known (c .before .before .before .before .before .before .before .before .before .args .line
-      .now) (c .before .before .before .parse .ensures) (c .before .column .given .1),
-  c .before .before .before .before .before
-      .before .before .before .before .pre .3,
-)
+cast-bad c =
+    let at-parse = c .before .before .before in
+    let start = at-parse .before .before .before .before .before .before in
+    omega (
+      arith,
+      command-known (start .args .line
+          .now) (at-parse .parse .ensures) (c .before .column .given .1),
+      start .pre .3,
+    )
 
 pub step-spec : {M : Type 1} → statement M
 step-spec =

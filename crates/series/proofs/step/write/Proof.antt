@@ -10,12 +10,13 @@ use Rattle.series.proofs.step.write.Tie as tie
 
 slice-aggregate-write-from : tie.Need-slice-aggregate-write-from
 slice-aggregate-write-from c =
-    let a = c .before .before .before .before .before .before .before .before .before .before .before .before .args in
-    sym (length-take-le (length (a .pairs .now) / 2) (c .before .before .before .before .before .put-bytes .last .1 .0) (omega (
+    let at-put-bytes = c .before .before .before .before .before in
+    let start = at-put-bytes .before .before .before .before .before .before .before in
+    let a = start .args in
+    sym (length-take-le (length (a .pairs .now) / 2) (at-put-bytes .put-bytes .last .1 .0) (omega (
       arith,
-      c .before .before .before .before .before .before .before .before .before .before .before .before .pre .2,
-      c
-          .before .before .before .before .before .before .before .before .before .before .before .before .pre .3,
+      start .pre .2,
+      start .pre .3,
     )))
 
 pub write-spec : {M : Type 1} → statement M

@@ -1,0 +1,39 @@
+-- What an access comes to before anything is read or written, on any memory, and what follows from it: the outcome of a load or
+-- store, and the attempt that goes on from its place.
+use mathlib.Core.List.{List}
+use Prim.Native.Nat.{ℕ}
+use Rattle.model.specs.Choice.{if_then_else_}
+use Rattle.model.specs.Words.{aligned}
+use Rattle.model.specs.Instruction.{onward}
+use Rattle.model.specs.Attempt.{Tried, tried}
+use Rattle.model.specs.declared.Pcs.{Pcs}
+use Rattle.model.specs.declared.Access.{Access}
+use Rattle.model.specs.declared.Access.the-variants as says
+use Rattle.model.specs.declared.Stop.the-variants as stop
+use Rattle.model.specs.declared.Outcome.{Outcome}
+use Rattle.model.specs.declared.Outcome.the-variants.{Done, Missing, Stopped}
+use Rattle.cpu.specs.declared.access.Reached.{Reached}
+use Rattle.cpu.specs.declared.access.Reached.the-variants.{Misaligned, Illegal, Fault, At}
+
+abbrev pub reachedBy : Access → Reached
+reachedBy says.Illegal = Illegal
+reachedBy says.Fault = Fault
+reachedBy (says.At i) = At i
+
+-- "address not a multiple of its width: stop 3", else what the memory says of the access to va
+unfoldable pub reach : ℕ → ℕ → Access → Reached
+reach width va a = if aligned width va then reachedBy a else Misaligned
+
+-- "illegal: stop 2; fault: load, begin anew", "DPC becomes PC', PC' becomes .. PC'+4"
+unfoldable pub ended : Pcs → ℕ → Reached → Outcome
+ended p va Misaligned = Stopped (stop.Misaligned va)
+ended p va Illegal = Stopped (stop.IllegalMemory va)
+ended p va Fault = Missing va
+ended p va (At i) = Done (record { dpc = p .next; next = onward (p .next) })
+
+-- what is done at the place; where there is none, registers and bytes stay
+unfoldable pub after : List ℕ → List ℕ → ℕ → (ℕ → Tried) → Reached → Tried
+after gpr bytes va done Misaligned = tried (Stopped (stop.Misaligned va)) gpr bytes
+after gpr bytes va done Illegal = tried (Stopped (stop.IllegalMemory va)) gpr bytes
+after gpr bytes va done Fault = tried (Missing va) gpr bytes
+after gpr bytes va done (At i) = done i

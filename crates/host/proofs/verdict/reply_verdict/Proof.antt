@@ -1,0 +1,15 @@
+-- `verdict::reply_verdict`: the test of the register.
+use mathlib.Core.Logic.{⊎-elim}
+use mathlib.Core.Path.{_∙_}
+use borrow.Author.Needs.{needs}
+use Rattle.host.proofs.Verdicts.{by-most, below-least}
+use Rattle.host.proofs.verdict.reply_verdict.Statement.{statement}
+use Rattle.host.proofs.verdict.reply_verdict.Tie as tie
+
+returns : tie.Need-returns
+returns c =
+    c .unless .ensures
+    ∙ ⊎-elim (λ k. by-most _ (k .0 .taken) _ (k .1)) (λ k. below-least _ (k .0 .left) _ (k .1)) (c .before .if1 .came)
+
+pub reply-verdict-spec : {M : Type 1} → statement M
+reply-verdict-spec = tie.close (tie.spec (λ c κs. search needs) returns)

@@ -1,0 +1,10 @@
+-- `verdict::unless`: granted, or refused r.
+use borrow.Author.Needs.{needs}
+use Rattle.host.proofs.verdict.unless.Statement.{statement}
+use Rattle.host.proofs.verdict.unless.Tie as tie
+
+returns-2 : tie.Need-returns-2
+returns-2 c = simp (c .if1 .left)
+
+pub unless-spec : {M : Type 1} → statement M
+unless-spec = tie.close (tie.spec (λ c. search needs) returns-2)

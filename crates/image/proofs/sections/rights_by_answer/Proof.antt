@@ -1,0 +1,18 @@
+-- `sections::rights_by_answer`: the section of an accepted image, or an empty part.
+use mathlib.Core.Path.{refl, sym, ap, _∙_}
+use borrow.Author.Needs.{needs}
+use Rattle.image.specs.Sections.{rightsByAnswer}
+use Rattle.image.proofs.sections.rights_by_answer.Statement.{statement}
+use Rattle.image.proofs.sections.rights_by_answer.Tie as tie
+
+returns : tie.Need-returns
+returns c = (c .rights-of .ensures .0 ∙ sym (ap (rightsByAnswer _) (c .before .before .answer .given .1)), c .rights-of .ensures .1)
+
+returns-2 : tie.Need-returns-2
+returns-2 c = (sym (ap (rightsByAnswer _) (c .before .enum-told .given .1)), record { block = refl; low = search needs; high = search needs })
+
+pub rights-by-answer-spec : {M : Type 1} → statement M
+rights-by-answer-spec =
+    tie.close
+    (tie.spec (λ c. search needs) (λ c κs. search needs) (λ c. search needs) (λ c. search needs) returns
+    returns-2)

@@ -1,0 +1,3 @@
+-- Laws of the record's words.
+pub mod Parts
+pub mod Words

@@ -1,0 +1,2 @@
+-- The record as words.
+pub mod Words

@@ -35,7 +35,7 @@ fn machine_verdict(m: Machine, main: &[u8], swap: &[u8]) -> Verdict
 }
 
 // Refusal 4 of a run: "0 to 1,000,000 instructions". Its last test is written out because the run's loop is inlined behind it, and
-// is two machine instructions shorter so.
+// is one to three machine instructions shorter so.
 pub fn run_verdict(m: Machine, main: &[u8], swap: &[u8], limit: u32) -> Verdict
     ensures { λ r. ⌜ r ≡ calls.runVerdict (state m (now (main .entry)) (now (swap .entry))) limit ⌝ }
 {

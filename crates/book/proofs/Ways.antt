@@ -1,7 +1,7 @@
 -- The ways out of the code over the frame book: a law for each, over plain variables.
 use mathlib.Core.Path.{_≡_, sym, ap, _∙_}
 use mathlib.Core.Bool.{true, false, not}
-use Prim.Native.Nat.{ℕ, _≤_, _<_}
+use Prim.Native.Nat.{ℕ, _+_, _%_, _≤_, _<_}
 use borrow.Author.Tests.{lt-ltb, le-ltb, eq-eqb, ne-eqb}
 use lib.Dec.{ltb, eqb}
 use Rattle.model.specs.Choice.{everyBelow}
@@ -17,8 +17,12 @@ module _ (a : ℕ) (b : FrameBook) (y : VirtualPage) (f : ℕ) (hf : f ≡ frame
   pub grows : b .used < a → grown (seat b f y) ≡ advanced a b y
   grows q = ap (λ (k : ℕ). grown (seat b k y)) hf ∙ sym (advanced-free a b y q)
 
-  pub turns : a ≤ b .used → turned a f (seat b f y) ≡ advanced a b y
-  turns q = ap (λ (k : ℕ). turned a k (seat b k y)) hf ∙ sym (advanced-full a b y q)
+  -- k is where the hand goes, before it goes round
+  pub turns : a ≤ b .used → (k : ℕ) → k ≡ f + 1 → record { used = b .used; hand = k % a; held = seat b f y .held } ≡ advanced a b y
+  turns q k e =
+      ap (λ (n : ℕ). record { used = b .used; hand = n % a; held = seat b f y .held }) e
+      ∙ ap (λ (n : ℕ). turned a n (seat b n y)) hf
+      ∙ sym (advanced-full a b y q)
 
 -- ---- B
 module _ (b : FrameBook) where

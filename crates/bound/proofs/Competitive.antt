@@ -142,7 +142,7 @@ module _ (a h e : ℕ) (sum : h + e ≡ suc a) (fewer : h ≤ a) (t : List Ask) 
   going : {held : List VirtualPage} {ds : List Demand} (rival : Schedule h held ds) (paid : ℕ) {w : List Ask} → length held ≤ h → Serving ds w → At held paid w
       → (n : ℕ) → paid + brings rival ≤ n → loads t * e ≤ a * (n + (a - h))
   unfolding brings
-  going (bring p fits rest) paid few sv s n more = going rest (suc paid) fits sv (brought p s) n (omega arith)
+  going (bring p fits rest) paid few sv s n more = going rest (suc paid) (omega (arith, fits)) sv (brought p s) n (omega arith)
   going (leave {held = held} p rest) paid few sv s n more =
       going rest paid (omega (arith, without-length p held)) sv (dropped p s) n more
   going (serve {held = held} {d = d} all rest) paid few sv s n more =
@@ -155,7 +155,7 @@ module _ (a h e : ℕ) (sum : h + e ≡ suc a) (fewer : h ≤ a) (t : List Ask) 
       → (n : ℕ) → paid + brings rival ≤ n → loads t * e ≤ a * (n + (a - h))
   unfolding brings
   starting (bring {held = held} p fits rest) paid few own sv n more =
-      starting rest (suc paid) fits (omega (arith, hold-length p held)) sv n (omega arith)
+      starting rest (suc paid) (omega (arith, fits)) (omega (arith, hold-length p held)) sv n (omega arith)
   starting (leave {held = held} p rest) paid few own sv n more =
       starting rest paid (omega (arith, without-length p held)) (omega (arith, without-length p held)) sv n more
   starting (serve {held = held} {d = d} all rest) paid few own sv n more =

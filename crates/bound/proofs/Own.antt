@@ -116,7 +116,7 @@ module _ (m : ℕ) (p : VirtualPage) (held q : List VirtualPage) (new : ¬ (p �
       let e : hold p less ≡ p ∷ less = insert-of-not-mem samePage less-new in
       let t : Ran (suc m) (hold p less) ds n = subst (λ (l : List VirtualPage). Ran (suc m) l ds n) (sym e) r in
       let few : length (hold p less) ≤ suc m = rw e (omega (arith, load-same .fits)) in
-      all-leave gone held (record { rival = bring p few (t .rival); cost = ap suc (t .cost) })
+      all-leave gone held (record { rival = bring p (omega (arith, few)) (t .rival); cost = ap suc (t .cost) })
 
 -- ---- an instruction, and all of them
 turn-ran : (o : Order) (m : ℕ) {d : Demand} {ds : List Demand} {q r : List VirtualPage} {n k : ℕ} (held : List VirtualPage)

@@ -3,8 +3,7 @@
 mod answer_words;
 
 use model::VirtualPage;
-ghost use mathlib.Core.Path.{_≡_};
-ghost use Rattle.capi.specs.Calls as calls;
+ghost use Rattle.capi.specs.Promises as promises;
 
 // The words of a record, and the bytes of a page.
 const RECORD: usize = record::LENGTH;
@@ -19,8 +18,8 @@ pub extern "C" fn brenwythal_load(
     swap: &mut [u8],
     words: &mut [u32],
 ) -> u32
-    ensures { λ r. ⌜ record { returned = r; words = now (words .exit); main = now (main .exit); swap = now (swap .exit) }
-        ≡ calls.load (now (file .entry)) (now (main .entry)) (now (swap .entry)) (now (words .entry)) ⌝ }
+    ensures { λ r. ⌜ promises.LoadPromise (now (file .entry)) (now (main .entry)) (now (swap .entry)) (now (words .entry))
+        (record { returned = r; words = now (words .exit); main = now (main .exit); swap = now (swap .exit) }) ⌝ }
 {
     if words.len() != RECORD {
         return 1;
@@ -41,8 +40,8 @@ pub extern "C" fn brenwythal_run(
     limit: u32,
     answer: &mut [u32],
 ) -> u32
-    ensures { λ r. ⌜ record { returned = r; words = now (words .exit); main = now (main .exit); swap = now (swap .exit); answer = now (answer .exit) }
-        ≡ calls.run (now (words .entry)) (now (main .entry)) (now (swap .entry)) limit (now (answer .entry)) ⌝ }
+    ensures { λ r. ⌜ promises.RunPromise (now (words .entry)) (now (main .entry)) (now (swap .entry)) limit (now (answer .entry))
+        (record { returned = r; words = now (words .exit); main = now (main .exit); swap = now (swap .exit); answer = now (answer .exit) }) ⌝ }
 {
     if words.len() != RECORD {
         return 1;
@@ -66,8 +65,8 @@ pub extern "C" fn brenwythal_read(
     va: u32,
     into: &mut [u8],
 ) -> u32
-    ensures { λ r. ⌜ record { returned = r; buffer = now (into .exit) }
-        ≡ calls.read (now (words .entry)) (now (main .entry)) (now (swap .entry)) va (now (into .entry)) ⌝ }
+    ensures { λ r. ⌜ promises.ReadPromise (now (words .entry)) (now (main .entry)) (now (swap .entry)) va (now (into .entry))
+        (record { returned = r; buffer = now (into .exit) }) ⌝ }
 {
     if words.len() != RECORD {
         return 1;
@@ -84,8 +83,8 @@ pub extern "C" fn brenwythal_write(
     va: u32,
     from: &[u8],
 ) -> u32
-    ensures { λ r. ⌜ record { returned = r; words = now (words .exit); main = now (main .exit); swap = now (swap .exit) }
-        ≡ calls.write (now (words .entry)) (now (main .entry)) (now (swap .entry)) va (now (from .entry)) ⌝ }
+    ensures { λ r. ⌜ promises.WritePromise (now (words .entry)) (now (main .entry)) (now (swap .entry)) va (now (from .entry))
+        (record { returned = r; words = now (words .exit); main = now (main .exit); swap = now (swap .exit) }) ⌝ }
 {
     if words.len() != RECORD {
         return 1;
@@ -106,8 +105,8 @@ pub extern "C" fn brenwythal_view<'a>(
     page: u32,
     into: &mut [u8],
 ) -> u32
-    ensures { λ r. ⌜ record { returned = r; buffer = now (into .exit) }
-        ≡ calls.view (now (words .entry)) (now (main .entry)) (now (swap .entry)) page (now (into .entry)) ⌝ }
+    ensures { λ r. ⌜ promises.ViewPromise (now (words .entry)) (now (main .entry)) (now (swap .entry)) page (now (into .entry))
+        (record { returned = r; buffer = now (into .exit) }) ⌝ }
 {
     if words.len() != RECORD {
         return 1;
@@ -127,7 +126,7 @@ pub extern "C" fn brenwythal_view<'a>(
 // "Reply sets one of GPR 1 to 31."
 #[no_mangle]
 pub extern "C" fn brenwythal_reply(words: &mut [u32], register: u32, value: u32) -> u32
-    ensures { λ r. ⌜ record { returned = r; words = now (words .exit) } ≡ calls.reply (now (words .entry)) register value ⌝ }
+    ensures { λ r. ⌜ promises.ReplyPromise (now (words .entry)) register value (record { returned = r; words = now (words .exit) }) ⌝ }
 {
     if words.len() != RECORD {
         return 1;
@@ -142,7 +141,7 @@ pub extern "C" fn brenwythal_reply(words: &mut [u32], register: u32, value: u32)
 // Reads a console image. The answer: "ptl, start and frames as written".
 #[no_mangle]
 pub extern "C" fn brenwythal_image(file: &[u8], answer: &mut [u32]) -> u32
-    ensures { λ r. ⌜ record { returned = r; answer = now (answer .exit) } ≡ calls.image (now (file .entry)) (now (answer .entry)) ⌝ }
+    ensures { λ r. ⌜ promises.ImagePromise (now (file .entry)) (now (answer .entry)) (record { returned = r; answer = now (answer .exit) }) ⌝ }
 {
     if answer.len() != 3 {
         return 1;

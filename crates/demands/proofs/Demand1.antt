@@ -39,7 +39,7 @@ unfolding hostVerdict
 transfer-first writing p va n len =
     let third : Row = 3 when SomeDenied writing p va n in
     machine-first p _ (4 when TransferTooLong n ∷ third ∷ []) len
-    (first-unless (leb n 256) TooMuch _ (4 when TransferTooLong n) (third ∷ []) refl (too-long-told 256 n)
+    (first-unless (leb n 256) TooMuch _ (4 when TransferTooLong n) (third ∷ []) refl (too-long-told 256 n (TransferTooLong n) (λ h. omega (arith, h)) (λ h. omega (arith, h)))
     (λ q. last-unless (permitted writing (p .machine .shape) (p .memory .main) va n) Rights third refl (some-denied-told writing p va n)))
 
 image-first : (l : List ℕ) (v : Verdict) (own : List Row) → First (verdictNumbers v .refused) own
@@ -78,7 +78,7 @@ unfolding runCall runVerdict
 run-exactly p n len =
     decides (run-answers p n) (runVerdict p n) _ (omega arith)
     (machine-first p _ (4 when RunTooLong n ∷ []) len
-    (last-unless (leb n 1000000) TooMuch (4 when RunTooLong n) refl (too-long-told 1000000 n)))
+    (last-unless (leb n 1000000) TooMuch (4 when RunTooLong n) refl (too-long-told 1000000 n (RunTooLong n) (λ h. omega (arith, h)) (λ h. omega (arith, h)))))
 
 view-exactly : (p : State) (x : VirtualPage) → Whole p
     → Decided (viewCall p x .verdict .refused) (machineRows p (3 when Denied false p x ∷ []))

@@ -12,14 +12,14 @@ use Rattle.model.specs.declared.VirtualPage.{VirtualPage}
 use Rattle.model.specs.declared.Verdict.{Verdict}
 use Rattle.model.specs.declared.Verdict.the-variants.{Granted, Refused}
 use Rattle.laws.specs.Good.{Good}
-use Rattle.laws.specs.Named.{Off, runNames, namesGranted, callNames}
+use Rattle.laws.specs.Named.{Off, runNames, namesGranted, alongCall}
 use Rattle.laws.proofs.Frame.{run-off, in-main}
 use Rattle.laws.proofs.Calls.{reply-call, read-call, view-call, write-call, write-machine, write-off, call-good, call-size}
 use Rattle.demands.specs.Demand2.{Outside, Demand2}
 use Rattle.demands.proofs.FlatRun.{runs-flat, few-loads, halts}
 
 off : (p : State) → Good p → (c : Call) (j : ℕ) → Outside p c j → getD (after p c .memory .main) j 0 ≡ getD (p .memory .main) j 0
-unfolding after runCall callNames
+unfolding after runCall alongCall
 off p g (runs n) j h = by (runVerdict p n) (h .unnamed)
   where
     by : (v : Verdict) → ((x : VirtualPage) → List·Memᴰ x (namesGranted v (runNames n (uncounted p))) → Off (entryAt (p .machine .shape) x) 4 j)

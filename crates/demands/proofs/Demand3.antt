@@ -1,10 +1,12 @@
 -- Demand 3: an instruction (`instruction-demand`), a run (`run-demand`), and from a fresh machine any series of calls (`demand-3`).
 use mathlib.Core.Path.{_≡_, refl, sym, ap, subst, _∙_}
 use mathlib.Core.List.{List, []}
-use Prim.Native.Nat.{ℕ, _+_, _≤_}
+use Prim.Native.Nat.{ℕ, _+_, _<_, _≤_}
 use native.Mathlib.Omega.{arith}
-use lib.ListN.{length}
-use Rattle.model.specs.Frames.{emptyBook}
+use lib.ListN.{length, length-replicate, getD-replicate}
+use lib.Seq.{ext-getD}
+use Rattle.model.specs.Pages.{virtual}
+use Rattle.model.specs.Frames.{pageIn, emptyBook}
 use Rattle.model.specs.State.{State}
 use Rattle.model.specs.Run.{Course, Counted, uncounted, instruction, run}
 use Rattle.model.specs.Flat.{Flat, flat}
@@ -28,7 +30,7 @@ use Rattle.bound.proofs.Frames.{keeps-first-come}
 use Rattle.bound.proofs.Handler.{handle-story}
 use Rattle.bound.proofs.Own.{own}
 use Rattle.demands.specs.Brought.{runBrings, callBrings, seriesBrings, Steps}
-use Rattle.demands.specs.Demand3.{frames, residents, leaving, stoppedFetch, InstructionServed, RunServed, RunsServed, SeriesServed, Demand3}
+use Rattle.demands.specs.Demand3.{frames, residents, leaving, stoppedFetch, InstructionServed, RunServed, RunsServed, Fresh, SeriesServed, Demand3}
 use Rattle.demands.proofs.Turns.{atLarge, Handled, instruction-served}
 use Rattle.demands.proofs.OrderLength.{order-length}
 use Rattle.demands.proofs.Stories.{having, run-handled, call-handled, series-handled}
@@ -93,7 +95,8 @@ module _ (o : Order) (kept : Keeps o) where
     fresh-served = record {
       counted = counted p (afterAll p cs) (loadsOfAll p cs) (seriesBrings p cs) (orderOfAll p cs) h;
       steps = subst (λ (b : FrameBook). Steps (frames p) b (seriesBrings p cs) (afterAll p cs .machine .book)) e (h .steps);
-      bound = calls-equal o (frames p) (Ready (frames p)) residents (call-ready (frames p)) (call-story (frames p)) p cs (g, refl);
+      bound = λ rival.
+          omega (arith, calls-equal o (frames p) (Ready (frames p)) residents (call-ready (frames p)) (call-story (frames p)) p cs (g, refl) rival);
       own = let z = own o (frames p) (g .fit .frames-least) (orderOfAll p cs) in (z .0, z .1 ∙ fresh-loads);
       fewer = calls-fewer o (frames p) (Ready (frames p)) residents (call-ready (frames p)) (call-story (frames p)) p cs (g, refl);
     }
@@ -107,6 +110,24 @@ instruction-demand = instruction-served leaving kept
 
 pub run-demand : RunsServed
 run-demand = run-served leaving kept
+
+-- a sound machine with b = 0 is fresh: hand is 0, and so is B
+pub fresh : (p : State) → Good p → p .machine .book .used ≡ 0 → Fresh (frames p) p
+fresh p g e = record { good = g; frames = refl; empty = λ i. record { used = e i; hand = hand i; held = held i } }
+  where
+    b : FrameBook
+    b = p .machine .book
+
+    hand : b .hand ≡ 0
+    hand = g .hand .still (omega (arith, e, g .fit .frames-least))
+
+    zero-page : (i : ℕ) → i < 32 → pageIn b i ≡ pageIn emptyBook i
+    zero-page i q = g .seated .rest i (omega (arith, e)) q ∙ sym (getD-replicate 32 i (virtual 0) (virtual 0) q)
+
+    held : b .held ≡ emptyBook .held
+    held =
+        ext-getD (virtual 0) (b .held) (emptyBook .held) (g .seated .booked .array ∙ sym (length-replicate 32 (virtual 0)))
+        (λ i q. zero-page i (omega (arith, q, g .seated .booked .array)))
 
 pub demand-3 : Demand3
 demand-3 a p f cs = subst (λ (x : ℕ). SeriesServed x p cs) (f .frames) (fresh-served leaving kept p (f .good) (f .empty) cs)

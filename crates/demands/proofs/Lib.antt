@@ -2,7 +2,6 @@
 pub mod Decide
 pub mod Told
 pub mod Demand1
-pub mod Unique
 pub mod FlatRun
 pub mod Demand2
 pub mod Loaded
@@ -11,4 +10,5 @@ pub mod Turns
 pub mod OrderLength
 pub mod Stories
 pub mod Demand3
+pub mod Each
 pub mod Summary

@@ -59,7 +59,7 @@ module _ (access : Bool → ℕ → Access) (gpr bytes : List ℕ) (pcs : Pcs) w
   obey-ends w (Trapping n) = tt
 
 -- ---- the demands of one instruction, by what it comes to
-abbrev Asked : List Demand → Step Flat → Type 0
+abbrev pub Asked : List Demand → Step Flat → Type 0
 Asked ds (goes next) = length ds ≡ 1
 Asked ds (stops s k left) = length ds ≡ k + stoppedFetch (stopNumber s) left
 
@@ -83,7 +83,7 @@ module _ (f : Flat) where
       by (Missing va) u = fetched-stop 2 refl e
       by (Stopped s) u = fetched-stop (stopNumber s) u e
 
-  flat-asked : Asked (demandOf f) (flatInstruction f)
+  pub flat-asked : Asked (demandOf f) (flatInstruction f)
   unfolding demandOf flatInstruction attempt transfer
   flat-asked = pick (aligned 4 (f .pcs .dpc)) refl (allow (f .rights) false (f .pcs .dpc)) refl
     where

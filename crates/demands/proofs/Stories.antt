@@ -19,7 +19,7 @@ use Rattle.model.specs.declared.Verdict.the-variants.{Granted, Refused}
 use Rattle.laws.specs.Good.{Good}
 use Rattle.laws.specs.Mapped.{leaves, mapStep}
 use Rattle.laws.specs.Demand2.{flatOf}
-use Rattle.laws.specs.Named.{namesOnward, namesGranted}
+use Rattle.laws.specs.Named.{namesOnward, namesGranted, alongRun, alongCall}
 use Rattle.laws.proofs.Simulate.{run-all}
 use Rattle.laws.proofs.Instruction.{instruction-right}
 use Rattle.laws.proofs.Run.{GoodCounted, keeps, first-shape}
@@ -49,7 +49,7 @@ first-order n c g r e =
 
 first-brings : (n : ℕ) (c : Counted) (r : Step Counted) → instruction c ≡ r
     → runBrings (suc n) c ≡ instructionBrings (c .state) ++ namesOnward r (λ next. runBrings n next)
-unfolding runBrings
+unfolding alongRun
 first-brings n c r e = ap (λ z. instructionBrings (c .state) ++ namesOnward z (λ next. runBrings n next)) e
 
 -- a state with the pages loaded so far
@@ -85,7 +85,7 @@ module _ (o : Order) (kept : Keeps o) where
 
   pub run-handled : (n : ℕ) (c : Counted) → Good (c .state)
       → Handled c (run instruction n c .left) (runBrings n c) (atLarge o (c .state) (orderOf n (flatOf c)))
-  unfolding large.handle orderOf runBrings
+  unfolding large.handle orderOf alongRun
   run-handled =
       run-all instruction GoodCounted keeps
       (λ n c r. Handled c (r .left) (runBrings n c) (atLarge o (c .state) (orderOf n (flatOf c))))
@@ -110,7 +110,7 @@ module _ (o : Order) (kept : Keeps o) where
 
   pub call-handled : (p : State) (c : Call) → Good p
       → Handled (uncounted p) (having (after p c) (loadsOf p c)) (callBrings p c) (atLarge o p (callOrder p c))
-  unfolding after loadsOf callOrder callBrings runCall writeCall replyCall
+  unfolding after loadsOf callOrder alongCall runCall writeCall replyCall
   call-handled p (runs n) g = by (runVerdict p n)
     where
       by : (v : Verdict)

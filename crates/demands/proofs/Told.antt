@@ -81,8 +81,12 @@ some-denied-told writing p va n = record {
     told i = denied-told writing p (pageOf (va + i))
 
 -- ---- 4
-pub too-long-told : (most n : ℕ) → Tells (leb n most) (4 when (most < n))
-too-long-told most n = record { fails = leb-false n most; passes = λ q h. omega (arith, leb-true n most q, h) }
+-- what is too long is longer than `most`
+pub too-long-told : (most n : ℕ) (tooLong : Type 0) → (most < n → tooLong) → (tooLong → most < n) → Tells (leb n most) (4 when tooLong)
+too-long-told most n tooLong to back = record {
+  fails = λ q. to (leb-false n most q);
+  passes = λ q h. omega (arith, leb-true n most q, back h);
+}
 
 pub register-told : (i : ℕ) → Tells (leb 1 i && leb i 31) (4 unless Register i)
 register-told i = tells-unless

@@ -24,7 +24,7 @@ use Rattle.model.specs.declared.Outcome.the-variants.{Done, Trapped, Missing, S
 use Rattle.laws.specs.Good.{Good}
 use Rattle.laws.specs.Mapped.{leaves}
 use Rattle.laws.proofs.Sound.{resident-valid}
-use Rattle.laws.specs.Named.{namesAfter}
+use Rattle.laws.specs.Named.{namesAfter, alongAttempts, alongInstruction}
 use Rattle.laws.proofs.Attempt.{missing}
 use Rattle.laws.proofs.Third.{Enough, enough, miss-good, miss-flat}
 use Rattle.bound.specs.Pages.{_⊆_}
@@ -34,7 +34,7 @@ use Rattle.bound.specs.Frames.{pages, Keeps}
 use Rattle.bound.specs.Handler as large
 use Rattle.bound.proofs.Schedule.{holds-iff}
 use Rattle.bound.proofs.Handler.{look-absent, carry-turn, carried}
-use Rattle.demands.specs.Brought.{attemptsBring, instructionBrings, Steps, no-step, one-step}
+use Rattle.demands.specs.Brought.{comes, instructionBrings, Steps, no-step, one-step}
 use Rattle.demands.specs.Demand3.{frames, residents, Serves}
 use Rattle.demands.proofs.Wants.{seen, lookFor, try-wants}
 
@@ -67,11 +67,11 @@ names-none (Missing va) = refl
 names-none (Stopped s) = refl
 
 -- ---- an instruction has no demand or one
-data Single : List Demand → Type 0 where
+pub data Single : List Demand → Type 0 where
   none : Single []
   single : (d : Demand) → Single (d ∷ [])
 
-demand-single : (f : Flat) → Single (demandOf f)
+pub demand-single : (f : Flat) → Single (demandOf f)
 unfolding demandOf
 demand-single f = pick (aligned 4 (f .pcs .dpc)) (legal (allow (f .rights) false (f .pcs .dpc))) _
   where
@@ -144,8 +144,8 @@ module _ (o : Order) (kept : Keeps o) where
         })
 
   attempts-handled : (k : ℕ) (c : Counted) → Good (c .state) → Enough k (c .state)
-      → Handled c (leaves (attempts k c)) (attemptsBring k (c .state)) (carryFor o (frames (c .state)) (suc k) (demandOf (flat (c .state))) (residents (c .state)))
-  unfolding attempts attemptsBring Enough load
+      → Handled c (leaves (attempts k c)) (alongAttempts comes k (c .state)) (carryFor o (frames (c .state)) (suc k) (demandOf (flat (c .state))) (residents (c .state)))
+  unfolding attempts alongAttempts Enough load
   attempts-handled zero c g h = rw names-none at (split c g zero (λ va. stops (IllegalMemory va) 0 c) (λ va. []) (λ va e. absurd (h va e)))
   attempts-handled (suc k) c g h =
       split c g (suc k) _ _
@@ -153,25 +153,25 @@ module _ (o : Order) (kept : Keeps o) where
 
   pub instruction-handled : (c : Counted) → Good (c .state)
       → Handled c (leaves (instruction c)) (instructionBrings (c .state)) (atLarge o (c .state) (demandOf (flat (c .state))))
-  unfolding instruction instructionBrings large.handle
+  unfolding instruction alongInstruction large.handle
   instruction-handled c g = by (demandOf (flat (c .state))) (demand-single (flat (c .state))) (attempts-handled 2 c g (enough (c .state) g))
     where
       by : (ds : List Demand) → Single ds
-          → Handled c (leaves (attempts 2 c)) (attemptsBring 2 (c .state)) (carryFor o (frames (c .state)) 3 ds (residents (c .state)))
-          → Handled c (leaves (attempts 2 c)) (attemptsBring 2 (c .state)) (atLarge o (c .state) ds)
+          → Handled c (leaves (attempts 2 c)) (alongAttempts comes 2 (c .state)) (carryFor o (frames (c .state)) 3 ds (residents (c .state)))
+          → Handled c (leaves (attempts 2 c)) (alongAttempts comes 2 (c .state)) (atLarge o (c .state) ds)
       by ds none t = t
       by ds (single d) t = record { counted = t .counted; many = omega (arith, t .many); left = t .left; steps = t .steps }
 
   -- ---- the pages that an instruction brings in are its own
-  attempts-own : (k : ℕ) (p : State) → Good p → (d : Demand) → demandOf (flat p) ≡ d ∷ [] → attemptsBring k p ⊆ pagesOf d
-  unfolding attemptsBring
+  attempts-own : (k : ℕ) (p : State) → Good p → (d : Demand) → demandOf (flat p) ≡ d ∷ [] → alongAttempts comes k p ⊆ pagesOf d
+  unfolding alongAttempts
   attempts-own zero p g d h = nil-subset _
   attempts-own (suc k) p g d h =
       by (try p .outcome) refl
       (λ va e. attempts-own k (load p (pageOf va)) (miss-good p g va e) d (ap demandOf (miss-flat p g va e) ∙ h))
     where
-      by : (z : Outcome) → try p .outcome ≡ z → ((va : ℕ) → try p .outcome ≡ Missing va → attemptsBring k (load p (pageOf va)) ⊆ pagesOf d)
-          → namesAfter z (λ va. pageOf va ∷ attemptsBring k (load p (pageOf va))) ⊆ pagesOf d
+      by : (z : Outcome) → try p .outcome ≡ z → ((va : ℕ) → try p .outcome ≡ Missing va → alongAttempts comes k (load p (pageOf va)) ⊆ pagesOf d)
+          → namesAfter z (λ va. pageOf va ∷ alongAttempts comes k (load p (pageOf va))) ⊆ pagesOf d
       by (Done pcs) e on = nil-subset _
       by (Trapped pcs n) e on = nil-subset _
       by (Missing va) e on =
@@ -182,7 +182,7 @@ module _ (o : Order) (kept : Keeps o) where
 
   -- ---- what an instruction with its demands does
   pub instruction-served : (c : Counted) → Good (c .state) → Serves o (demandOf (flat (c .state))) c (leaves (instruction c)) (instructionBrings (c .state))
-  unfolding instruction instructionBrings
+  unfolding instruction alongInstruction
   instruction-served c g =
       by (demandOf (flat (c .state))) refl (demand-single (flat (c .state))) (attempts-handled 2 c g (enough (c .state) g))
     where
@@ -190,7 +190,7 @@ module _ (o : Order) (kept : Keeps o) where
       e = leaves (attempts 2 c)
 
       ys : List VirtualPage
-      ys = attemptsBring 2 (c .state)
+      ys = alongAttempts comes 2 (c .state)
 
       by : (ds : List Demand) → demandOf (flat (c .state)) ≡ ds → Single ds
           → Handled c e ys (carryFor o (frames (c .state)) 3 ds (residents (c .state))) → Serves o ds c e ys

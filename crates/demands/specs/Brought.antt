@@ -3,33 +3,27 @@
 use mathlib.Core.Path.{_≡_}
 use mathlib.Core.Bool.{false}
 use mathlib.Core.List.{List, [], _∷_, _++_}
-use Prim.Native.Nat.{ℕ, zero, suc}
-use Rattle.model.specs.Pages.{pageOf}
+use Prim.Native.Nat.{ℕ}
 use Rattle.model.specs.Frames.{advanced, resident}
 use Rattle.model.specs.State.{State}
-use Rattle.model.specs.Handler.{load}
-use Rattle.model.specs.Run.{Counted, uncounted, try, instruction}
+use Rattle.model.specs.Run.{Counted}
 use Rattle.model.specs.Series.{Call, after}
 use Rattle.model.specs.declared.FrameBook.{FrameBook}
 use Rattle.model.specs.declared.VirtualPage.{VirtualPage}
-use Rattle.laws.specs.Named.{namesAfter, namesOnward, namesOfCall}
+use Rattle.laws.specs.Named.{alongInstruction, alongRun, alongCall}
 
--- an instruction with at most k page loads, as `attempts`: a page that is missed is loaded, and the attempt begins anew
-unfoldable pub attemptsBring : ℕ → State → List VirtualPage
-attemptsBring zero p = []
-attemptsBring (suc k) p = namesAfter (try p .outcome) (λ va. pageOf va ∷ attemptsBring k (load p (pageOf va)))
+-- of a load, the page that comes
+abbrev pub comes : State → VirtualPage → List VirtualPage
+comes p y = y ∷ []
 
-unfoldable pub instructionBrings : State → List VirtualPage
-instructionBrings p = attemptsBring 2 p
+abbrev pub instructionBrings : State → List VirtualPage
+instructionBrings p = alongInstruction comes p
 
--- a run of at most n instructions, as `run`
-unfoldable pub runBrings : ℕ → Counted → List VirtualPage
-runBrings zero c = []
-runBrings (suc n) c = instructionBrings (c .state) ++ namesOnward (instruction c) (λ next. runBrings n next)
+abbrev pub runBrings : ℕ → Counted → List VirtualPage
+runBrings n c = alongRun comes n c
 
--- a call: only a run that is granted
-unfoldable pub callBrings : State → Call → List VirtualPage
-callBrings p c = namesOfCall (λ q n. runBrings n (uncounted q)) p c
+abbrev pub callBrings : State → Call → List VirtualPage
+callBrings p c = alongCall comes p c
 
 unfoldable pub seriesBrings : State → List Call → List VirtualPage
 seriesBrings p [] = []

@@ -2,10 +2,10 @@
 pub mod Refusals
 pub mod Conditions
 pub mod Demand1
-pub mod Unique
 pub mod FlatRun
 pub mod Demand2
 pub mod Loaded
 pub mod Brought
 pub mod Demand3
+pub mod Each
 pub mod Summary

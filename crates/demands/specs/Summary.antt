@@ -1,5 +1,6 @@
--- The three demands in one place, of every image that loading accepts and of every series of calls after it; and that no two outcomes
--- fit a promise. Each line stands for a statement of this crate; the theorem is `summary` of proofs/Summary.
+-- The three demands in one place: of every sound machine, of every fresh one, and of every image that loading accepts, with any series
+-- of calls after it; and what holds of each instruction, each run and each load. Each line stands for a statement of this crate; the
+-- theorem is `summary` of proofs/Summary. That no two outcomes fit a promise is `unique` (crates/unique).
 use mathlib.Core.Path.{_≡_}
 use mathlib.Core.List.{List}
 use Prim.Native.Nat.{ℕ}
@@ -11,7 +12,7 @@ use Rattle.demands.specs.Demand1.{Demand1}
 use Rattle.demands.specs.Demand2.{Demand2}
 use Rattle.demands.specs.Demand3.{SeriesServed}
 use Rattle.demands.specs.Loaded.{LoadedFrom}
-use Rattle.demands.specs.Unique.{Unique}
+use Rattle.demands.specs.Each.{EachLoad, NeverVictim, EachInstruction, EachRun}
 
 -- loading the image l into the memories m is not refused
 abbrev pub Taken : List ℕ → Memory → Type 0
@@ -24,11 +25,23 @@ start l m = loadCall l m .state
 abbrev pub later : List ℕ → Memory → List Call → State
 later l m cs = afterAll (start l m) cs
 
--- the machine stands for its image, and after the calls it is sound, and every call on it meets demand 2
-pub record FlatThroughout (l : List ℕ) (m : Memory) (cs : List Call) : Type 0 where
+-- ---- every sound machine, with abase, pto and sbase as a host chose them; `Good` is what refusals 1 and 2 let through (demand 1)
+abbrev pub EverySound : Type 0
+EverySound = (p : State) → Good p → Demand2 p
+
+-- ---- every fresh machine: a sound one with b = 0, so that no entry is valid
+abbrev pub EveryFresh : Type 0
+EveryFresh = (p : State) → Good p → p .machine .book .used ≡ 0 → (cs : List Call) → SeriesServed (p .machine .shape .frames) p cs
+
+-- ---- every image: its machine stands for it, is sound after the calls, and meets demands 2 and 3
+pub record Throughout (l : List ℕ) (m : Memory) (cs : List Call) : Type 0 where
   pub loaded : LoadedFrom l m (start l m)
   pub sound : Good (later l m cs)
   pub calls : Demand2 (later l m cs)
+  pub series : SeriesServed (meant (framesOf l)) (start l m) cs
+
+abbrev pub EveryImage : Type 0
+EveryImage = (l : List ℕ) (m : Memory) → Taken l m → (cs : List Call) → Throughout l m cs
 
 pub record Summary : Type 0 where
   -- "No input makes it misbehave. Each refusal comes exactly when document 01 says, and changes no byte of memory and no register."
@@ -36,9 +49,19 @@ pub record Summary : Type 0 where
   -- "Each instruction does what the virtual DLX does on one flat memory with rights, and each page moves as document 01 fixes. The
   -- host's reads and writes meet that same flat memory. Outside the frames, a call changes main memory only in the table entries that
   -- a page load names."
-  pub demand-2 : (l : List ℕ) (m : Memory) → Taken l m → (cs : List Call) → FlatThroughout l m cs
+  pub demand-2 : EverySound
   -- "From a fresh machine with a frames, over any series of run, host and reply calls, the pages loaded are counted truly and are at
   -- most a times the loads of any other schedule for the same instructions in the same order."
-  pub demand-3 : (l : List ℕ) (m : Memory) → Taken l m → (cs : List Call) → SeriesServed (meant (framesOf l)) (start l m) cs
-  -- "Show that no two outcomes fit it"
-  pub unique : Unique
+  pub demand-3 : EveryFresh
+  -- "Loading makes P the lent main pages, a the frames, abase 1, pto 0, sbase 0.": that machine, and what any series of calls leaves
+  pub images : EveryImage
+  -- "one that runs the first instruction and then only counts (demand 2 after each step)"; "An instruction has at most two loads.",
+  -- and its pages are resident together at its end
+  pub instructions : EachInstruction
+  -- "one with an invented load count (it equals the handler's steps in the definition)"; "So pages leave in the order of arrival". The
+  -- order of demands has one for each instruction finished, and for one that stopped after a legal fetch.
+  pub runs : EachRun
+  -- "the page x = B[f] is copied whole to swap .. All other bytes stay."
+  pub loads : EachLoad
+  -- "and the page loaded last (MRL in 000) is never the victim", in any book with b ≤ a and hand as soundness has it
+  pub last : NeverVictim

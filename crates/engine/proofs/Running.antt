@@ -1,5 +1,5 @@
 -- A run under way, between two attempts: what is left of it, and what each outcome of the next attempt makes of it.
-use mathlib.Core.Path.{_≡_, refl, sym, ap, subst, _∙_}
+use mathlib.Core.Path.{_≡_, refl, sym, ap, ap₂, subst, _∙_}
 use mathlib.Core.List.{List}
 use Prim.Native.Nat.{ℕ, zero, suc, _+_, _-_, _*_, _≤_, _<_}
 use native.Mathlib.Nat.{add-zero, zero-add, add-assoc}
@@ -248,12 +248,14 @@ module _ (limit : ℕ) (c₀ : Counted) (s : Shape) (b : FrameBook) (swap : List
       }
 
       pub leg-again : (b′ : FrameBook) (main′ swap′ : List ℕ) → record { book = b′; memory = memory main′ swap′ } ≡ afterLoad s b (memory m swap) y
-          → Running limit c₀ (counted s b′ g (r .pcs) main′ swap′ (l + 1)) (limit - r .left)
+          → (dpc next : ℕ) → dpc ≡ r .pcs .dpc → next ≡ r .pcs .next → (l′ : ℕ) → l′ ≡ l + 1
+          → Running limit c₀ (counted s b′ g (record { dpc = dpc; next = next }) main′ swap′ l′) (limit - r .left)
       unfolding load
-      leg-again b′ main′ swap′ q =
+      leg-again b′ main′ swap′ q dpc next d x l′ one =
           let k : Stepped = record { book = b′; memory = memory main′ swap′ } in
           let q′ : k ≡ afterLoad s b (memory m swap) (pageOf va) = q ∙ ap (λ x. afterLoad s b (memory m swap) x) is-page in
-          let n : counted s b′ g (r .pcs) main′ swap′ (l + 1) ≡ served here (pageOf va) =
-          ap (λ n. counted s b′ g (r .pcs) main′ swap′ n) (add-one l)
+          let n : counted s b′ g (record { dpc = dpc; next = next }) main′ swap′ l′ ≡ served here (pageOf va) =
+          ap₂ (λ d n. counted s b′ g (record { dpc = d; next = n }) main′ swap′ l′) d x
+          ∙ ap (λ n. counted s b′ g (r .pcs) main′ swap′ n) (one ∙ add-one l)
           ∙ ap (λ (z : Stepped). counted s (z .book) g (r .pcs) (z .memory .main) (z .memory .swap) (suc l)) q′ in
           rw n (loaded-on limit c₀ here (limit - r .left) leg-on (short _ e gone) (r .outcome) (last _ e gone .1) va e)

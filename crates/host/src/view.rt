@@ -4,17 +4,17 @@ use crate::home::Home;
 use model::Shape;
 use model::VirtualPage;
 use paging::pages;
-ghost use mathlib.Core.Path.{_≡_};
 ghost use Prim.Native.Nat.{_<_};
 ghost use lib.ListN.{length};
-ghost use Rattle.model.specs.Calls.{pageBytes};
+ghost use Rattle.model.specs.Parts.{PartOf, pageHome, pagePart};
 ghost use Rattle.model.specs.State.{memory};
 ghost use Rattle.host.specs.Home.{Reachable};
 
 // "from main memory or from swap as its entry says"
 pub fn page_part<'a>(s: Shape, main: &'a [u8], swap: &'a [u8], page: VirtualPage) -> &'a [u8]
     requires { ⌜ Reachable s (now main) (length (now swap)) × (page .0 < s .ptl) ⌝ }
-    ensures { λ r. ⌜ now r ≡ pageBytes s (memory (now (main .entry)) (now (swap .entry))) page ⌝ }
+    ensures { λ r. ⌜ PartOf (pageHome s (main .entry) (swap .entry) page)
+        (pagePart s (memory (now (main .entry)) (now (swap .entry))) page) r ⌝ }
 {
     match home::home_of(s, main, page) {
         Home::Main(p) => {

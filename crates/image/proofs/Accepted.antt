@@ -1,23 +1,23 @@
 -- What the answer says of the file: of one that is accepted, and of one that is refused; and the reader's outcome by it. Whoever calls
 -- the reader has these facts from the numbers of its answer: `read-image`, `read-refused`.
 use mathlib.Core.Path.{_≡_, refl, sym, ap, _∙_}
-use mathlib.Core.List.{List, []}
-use Prim.Native.Nat.{ℕ}
+use mathlib.Core.List.{List}
+use Prim.Native.Nat.{ℕ, _*_}
 use native.Mathlib.Omega.{arith}
-use lib.Dec.{eqb}
-use Rattle.model.specs.Choice.{if_then_else_}
-use Rattle.model.specs.Answers.{refusalNumber, ImageNumbers, imageNumbers}
-use Rattle.model.specs.Image.{ptlOf, startOf, framesOf, rightsOf, pagesOf, known, wellFormed, imageVerdict, imageBy, imageCall}
+use Rattle.model.specs.Answers.{imageNumbers}
+use Rattle.model.specs.Image.{ptlOf, startOf, framesOf, rightsPlace, rightsOf, pagesPlace, pagesOf, known, wellFormed, imageVerdict, imageBy, imageCall}
+use Rattle.model.specs.Parts.{partAt, noPart, pagesPart, rightsPart}
 use Rattle.model.specs.declared.Refusal.{Refusal}
-use Rattle.model.specs.declared.Refusal.the-variants.{Bound, Unsound, Rights, TooMuch, Edition, Format, Room}
+use Rattle.model.specs.declared.Refusal.the-variants.{Edition, Format}
 use Rattle.model.specs.declared.Verdict.{Verdict}
 use Rattle.model.specs.declared.Verdict.the-variants.{Granted, Refused}
 use Rattle.model.specs.declared.ImageAnswer.{ImageAnswer}
 use Rattle.model.specs.declared.ImageAnswer.the-variants.{Image, NotImage}
 use Rattle.laws.specs.Formed.{Known, Formed}
 use Rattle.laws.proofs.Choice.{clash}
-use Rattle.laws.proofs.Granted.{refused, refused-first}
-use Rattle.laws.proofs.Formed.{image-facts, read-accepted}
+use Rattle.laws.proofs.Numbers.{image-told}
+use Rattle.laws.proofs.Granted.{refused-first}
+use Rattle.laws.proofs.Formed.{image-facts}
 use Rattle.image.specs.Sections.{rightsBy, pagesBy, rightsByAnswer, pagesByAnswer}
 use Rattle.image.specs.Format.{answerBy, answerOf}
 use Rattle.image.proofs.Parts.{the-rights, the-pages}
@@ -63,74 +63,51 @@ module _ (l : List ℕ) where
   read-numbers = numbers-by (imageVerdict l Granted) l
 
   module _ (r : Refusal) (e : answerOf l ≡ NotImage r) where
-    no-pages : [] ≡ imageCall l .pages
+    no-pages : noPart ≡ pagesPart l
     unfolding imageCall
     no-pages = rw (keeps l Granted r e)
 
-    no-rights : [] ≡ imageCall l .rights
+    no-rights : noPart ≡ rightsPart l
     unfolding imageCall
     no-rights = rw (keeps l Granted r e)
 
   module _ (ptl start frames : ℕ) (e : answerOf l ≡ Image ptl start frames) where
     -- the sections that code cuts by the answer's ptl
-    the-pages-by : pagesBy l ptl ≡ pagesOf l
+    the-pages-by : pagesBy l ptl ≡ partAt l (pagesPlace l) (4096 * ptlOf l)
     the-pages-by =
         let a = answered l ptl start frames e in
         rw (a .is-ptl) (the-pages l (omega (arith, a .formed .to-pages, a .formed .within)))
 
-    the-rights-by : rightsBy l ptl ≡ rightsOf l
+    the-rights-by : rightsBy l ptl ≡ partAt l (rightsPlace l) (ptlOf l)
     the-rights-by =
         let a = answered l ptl start frames e in
         rw (a .is-ptl) (the-rights l (omega (arith, a .formed .to-pages, a .formed .within)))
 
-    outcome : imageCall l ≡ imageBy Granted l
-    outcome = let a = answered l ptl start frames e in read-accepted l (a .known) (a .formed)
+    verdict : imageVerdict l Granted ≡ Granted
+    unfolding answerOf
+    verdict = by-image (imageVerdict l Granted) l ptl start frames e
 
-    some-pages : pagesBy l ptl ≡ imageCall l .pages
-    some-pages = rw outcome the-pages-by
+    some-pages : pagesBy l ptl ≡ pagesPart l
+    unfolding imageCall pagesOf
+    some-pages = rw verdict the-pages-by
 
-    some-rights : rightsBy l ptl ≡ imageCall l .rights
-    some-rights = rw outcome the-rights-by
+    some-rights : rightsBy l ptl ≡ rightsPart l
+    unfolding imageCall rightsOf
+    some-rights = rw verdict the-rights-by
 
   -- the sections by the answer at hand
-  pub hand-pages : (a : ImageAnswer) → a ≡ answerOf l → pagesByAnswer l a ≡ imageCall l .pages
+  pub hand-pages : (a : ImageAnswer) → a ≡ answerOf l → pagesByAnswer l a ≡ pagesPart l
   hand-pages (Image ptl start frames) e = some-pages ptl start frames (sym e)
   hand-pages (NotImage r) e = no-pages r (sym e)
 
-  pub hand-rights : (a : ImageAnswer) → a ≡ answerOf l → rightsByAnswer l a ≡ imageCall l .rights
+  pub hand-rights : (a : ImageAnswer) → a ≡ answerOf l → rightsByAnswer l a ≡ rightsPart l
   hand-rights (Image ptl start frames) e = some-rights ptl start frames (sym e)
   hand-rights (NotImage r) e = no-rights r (sym e)
 
--- ---- no two answers have the same numbers
-refusalOf : ℕ → Refusal
-refusalOf n =
-    if eqb n 1 then Bound else if eqb n 2 then Unsound else if eqb n 3 then Rights else if eqb n 4 then TooMuch
-    else if eqb n 5 then Edition else if eqb n 6 then Format else Room
-
-of-number : (r : Refusal) → refusalOf (refusalNumber r) ≡ r
-unfolding refusalOf
-of-number Bound = refl
-of-number Unsound = refl
-of-number Rights = refl
-of-number TooMuch = refl
-of-number Edition = refl
-of-number Format = refl
-of-number Room = refl
-
-same-answer : (a b : ImageAnswer) → imageNumbers a ≡ imageNumbers b → a ≡ b
-same-answer (Image ptl start frames) (Image ptl′ start′ frames′) e =
-    let p = ap (λ (n : ImageNumbers). n .ptl) e in
-    let s = ap (λ (n : ImageNumbers). n .start) e in
-    let f = ap (λ (n : ImageNumbers). n .frames) e in
-    cc
-same-answer (Image ptl start frames) (NotImage r) e = refused r (ap (λ (n : ImageNumbers). n .verdict .refused) (sym e))
-same-answer (NotImage r) (Image ptl start frames) e = refused r (ap (λ (n : ImageNumbers). n .verdict .refused) e)
-same-answer (NotImage r) (NotImage q) e =
-    ap NotImage (sym (of-number r) ∙ ap (λ (n : ImageNumbers). refusalOf (n .verdict .refused)) e ∙ of-number q)
-
+-- ---- by the numbers of the answer
 module _ (l : List ℕ) where
   by-numbers : (a : ImageAnswer) → imageNumbers a ≡ imageCall l .numbers → answerOf l ≡ a
-  by-numbers a e = same-answer (answerOf l) a (read-numbers l ∙ sym e)
+  by-numbers a e = image-told (answerOf l) a (read-numbers l ∙ sym e)
 
   pub read-image : (ptl start frames : ℕ) → imageNumbers (Image ptl start frames) ≡ imageCall l .numbers → Answered l ptl start frames
   read-image ptl start frames e = answered l ptl start frames (by-numbers _ e)

@@ -1,7 +1,7 @@
 -- A function of a file by way of the image at hand, walked once for all: the second callee's name, the result's type and what is promised of it are
 -- variables. `keep` is called on the slice, and the callee on the struct that it returned. The slice is Copy: what it owns is had twice, once for the call
 -- and once kept for the exit.
-use mathlib.Core.Path.{_≡_, refl}
+use mathlib.Core.Path.{refl}
 use Prim.Native.Nat.{ℕ}
 use mathlib.Core.List.{List, [], _∷_}
 use lib.ListN.{length}
@@ -32,7 +32,7 @@ use denote.Triple.Spec.{Meets, tripleOf}
 use denote.Triple.Walked.{says, Stays, stay-none-slice, walkOf, goes-none-slice, Walks, ends-at, walked, walk-meets}
 use denote.Exit.{yes}
 use denote.Triple.Clauses.{Ended, Clauses, closing, ensured, lasts}
-use Rattle.image.specs.Hand.{AtHand}
+use Rattle.image.specs.Hand.{KeepPromise}
 use Rattle.image.specs.declared.at_hand.Image.{Image}
 use Rattle.image.proofs.at_hand.Image as T
 use Rattle.image.proofs.at_hand.Image.Laws as T′
@@ -45,14 +45,10 @@ use Rattle.image.proofs.read as filed
 abbrev B : Lfts 1 → RattleType
 B κs = T.the-row (namedLft 1 0 tt κs)
 
--- what is known of the struct that `keep` returns for s
-abbrev pub Of : RefT (List ℕ) → Image → Type 0
-Of s d = (d .file ≡ s) × AtHand d
-
 module _ {M : Type 1} (𝓤 : URA M) (H : Heap 𝓤) (A : Atoms 𝓤) where
   -- the contract of `keep`
   abbrev as-read : Clauses 𝓤 new.ended
-  as-read κs a = record { ghost = Unit {0}; requires = λ g. emp 𝓤; ensures = λ g r ends. fact 𝓤 (Of (a .0) r) }
+  as-read κs a = record { ghost = Unit {0}; requires = λ g. emp 𝓤; ensures = λ g r ends. fact 𝓤 (KeepPromise (a .0) r) }
 
   abbrev pub New : Contract 𝓤
   New = tripleOf 𝓤 H A new.signature (closing 𝓤 H A new.ended as-read)
@@ -63,7 +59,7 @@ pub record Result : Type 2 where
   pub mir : Ty
   pub Said : (κ : Lft) → Image → out .row (κ, tt) .Denot → Type 0
   pub Promised : (κ : Lft) → RefT (List ℕ) → out .row (κ, tt) .Denot → Type 0
-  pub follows : (κ : Lft) (s : RefT (List ℕ)) (d : Image) (t : out .row (κ, tt) .Denot) → Of s d → Said κ d t → Promised κ s t
+  pub follows : (κ : Lft) (s : RefT (List ℕ)) (d : Image) (t : out .row (κ, tt) .Denot) → KeepPromise s d → Said κ d t → Promised κ s t
   pub typed : (κ : Lft) (t : out .row (κ, tt) .Denot) (u : Val) → Is (out .row (κ, tt)) t (u ∷ []) → Typed (mir ∷ []) (u ∷ [])
 
 -- the signatures of the callee and of the function, with any result
@@ -134,8 +130,8 @@ module _ {M : Type 1} (𝓤 : URA M) (H : Heap 𝓤) (A : Atoms 𝓤) (W : Given
       move ! (1 ∷ []) $ fsplit ! $ use1 W (‵ Own ⊛ ‵ Own) (shr-slice-copy 𝓤 H A W (named 0) κ u8 .twice s (v ∷ [])) $ split ! $
       move ! (0 ∷ 2 ∷ []) $ fjoin ! $ move ! (2 ∷ 0 ∷ []) $ use2 W (raw (New 𝓤 H A .pre to-new)) (qed W ((‵ (flft κ q) ⊛ ‵ ftrue) ∷ ‵ (owns (ShrSlice (named 0) κ u8 ∷ []) (s, tt) (v ∷ [], tt)) ∷ []) ∵ join ! $ frame ! $ done !) $ frame ! $ done !
 
-  new-said : (r : Image) → ent 𝓤 (ensured 𝓤 H A new.ended (as-read 𝓤 H A) (κ, tt) (s, tt) tt r) (fact 𝓤 (Of s r))
-  new-said r = exE 𝓤 _ (λ ws. snd∗ 𝓤 (sem 𝓤 H A (lasts new.ended (κ, tt) (s, tt) ws)) (fact 𝓤 (Of s r)))
+  new-said : (r : Image) → ent 𝓤 (ensured 𝓤 H A new.ended (as-read 𝓤 H A) (κ, tt) (s, tt) tt r) (fact 𝓤 (KeepPromise s r))
+  new-said r = exE 𝓤 _ (λ ws. snd∗ 𝓤 (sem 𝓤 H A (lasts new.ended (κ, tt) (s, tt) ws)) (fact 𝓤 (KeepPromise s r)))
 
   -- the call of the callee, at the struct r with the machine value u
   abbrev to-next : Image → Val → Next R 𝓤 H A .Ghost
@@ -161,7 +157,7 @@ module _ {M : Type 1} (𝓤 : URA M) (H : Heap 𝓤) (A : Atoms 𝓤) (W : Given
         move ! (6 ∷ []) $ use1 W (raw (New 𝓤 H A .pre to-new) ⊛ ‵ Own) goes-new $ split ! $
         calls-at ! fm (New 𝓤 H A) known-new to-new (and-then ! (load ! (from ! (stop !)) (look ! 4 refl)) (no-more !)) (λ u.
         use1 W (later (some (λ (r : Image). ((‵ (flft κ q) ⊛ ‵ ftrue) ⊛ ‵ (B (κ, tt) .own r (u ∷ []))) ⊛ raw (ensured 𝓤 H A new.ended (as-read 𝓤 H A) (κ, tt) (s, tt) tt r)))) (id⊢ 𝓤 _) $ await ! tt $ pick ! (λ r.
-        split ! $ move ! (1 ∷ []) $ use1 W (raw (fact 𝓤 (Of s r))) (new-said r) $ heard ! (Of s r) (λ e. split ! $ move ! (1 ∷ []) $
+        split ! $ move ! (1 ∷ []) $ use1 W (raw (fact 𝓤 (KeepPromise s r))) (new-said r) $ heard ! (KeepPromise s r) (λ e. split ! $ move ! (1 ∷ []) $
         -- [what the struct owns; the token; what s owns; room for _2; …; _1; …; room for _0; …]
         peeks ! (B (κ, tt)) (Is (B (κ, tt))) (shows 𝓤 H A (B (κ, tt))) r (u ∷ []) (λ is.
         land ! (from ! (stop !)) (init ! 3 refl (LL.lawful (T.the-type αᵉ) (T′.the-laws αᵉ) 𝓤 H A W .typed r _ is .0)) $

@@ -9,6 +9,7 @@ use lib.Dec.{eqb, leb}
 use lib.ListN.{length, getD}
 use Rattle.model.specs.Choice.{passes, everyBelow}
 use Rattle.model.specs.Image.{trailer, ptlOf, startOf, framesOf, rightsOf, known, wellFormed, imageVerdict}
+use Rattle.model.specs.Parts.{Part}
 use Rattle.model.specs.declared.Refusal.the-variants.{Edition, Format}
 use Rattle.model.specs.declared.ImageAnswer.the-variants.{Image, NotImage}
 use Rattle.laws.proofs.Choice.{pass}
@@ -63,13 +64,13 @@ module _ (l : List ℕ) where
   unfolding distancesRight
   far-enough e = omega (arith, eqb-true (trailer l 1) (24 + ptlOf l + 4096 * ptlOf l) (pass _ e 3), leb-true (trailer l 1) (length l) (pass _ e 4))
 
-  rights-read : distancesRight (trailerOf l) (length l) ≡ true → rightsRight (rightsBy l (ptlOf l)) ≡ everyRight
-  unfolding everyRight
+  rights-read : distancesRight (trailerOf l) (length l) ≡ true → rightsRight (rightsBy l (ptlOf l) .bytes) ≡ everyRight
+  unfolding everyRight rightsOf
   rights-read e =
       let h = far-enough e in
-      ap (λ n. everyBelow n (λ x. leb (getD (rightsBy l (ptlOf l)) x 0) 3))
+      ap (λ n. everyBelow n (λ x. leb (getD (rightsBy l (ptlOf l) .bytes) x 0) 3))
       (length-section l (24 + ptlOf l) (ptlOf l) (omega arith) (omega arith))
-      ∙ ap (λ r. everyBelow (ptlOf l) (λ x. leb (getD r x 0) 3)) (the-rights l (omega arith))
+      ∙ ap (λ (p : Part). everyBelow (ptlOf l) (λ x. leb (getD (p .bytes) x 0) 3)) (the-rights l (omega arith))
 
   -- by the trailer t that the code has read, and what each of its calls says
   module _ (t : Trailer) (ht : t ≡ trailerOf l) (d : Bool) (hd : d ≡ distancesRight t (length l)) where
@@ -79,7 +80,7 @@ module _ (l : List ℕ) where
     pub distances-wrong : not d ≡ true → false ≡ wellFormed l
     distances-wrong h = rw (split, distances-are, not-true d h)
 
-    module _ (h : not d ≡ false) (rights : List ℕ) (hr : rights ≡ rightsBy l (t .ptl)) (r : Bool) (e : r ≡ rightsRight rights) where
+    module _ (h : not d ≡ false) (rights : List ℕ) (hr : rights ≡ rightsBy l (t .ptl) .bytes) (r : Bool) (e : r ≡ rightsRight rights) where
       rights-are : everyRight ≡ r
       rights-are = sym (e ∙ ap rightsRight (rw ht at hr) ∙ rights-read (distances-are ∙ not-false d h))
 

@@ -2,8 +2,7 @@
 use crate::format;
 use crate::sections;
 use model::ImageAnswer;
-ghost use mathlib.Core.Path.{_≡_};
-ghost use Rattle.image.specs.Hand.{AtHand, Pages, Rights};
+ghost use Rattle.image.specs.Hand.{KeepPromise, AnswerPromise, HandPagesPromise, HandRightsPromise};
 
 // The answer has the trailer's numbers as written, or the refusal.
 pub struct Image<'a> {
@@ -12,7 +11,7 @@ pub struct Image<'a> {
 }
 
 pub fn keep<'a>(file: &'a [u8]) -> Image<'a>
-    ensures { λ r. ⌜ (r .file ≡ file .entry) × AtHand r ⌝ }
+    ensures { λ r. ⌜ KeepPromise (file .entry) r ⌝ }
 {
     Image {
         file: file,
@@ -21,20 +20,20 @@ pub fn keep<'a>(file: &'a [u8]) -> Image<'a>
 }
 
 pub fn answer<'a>(i: Image<'a>) -> ImageAnswer
-    ensures { λ r. ⌜ r ≡ i .entry .answer ⌝ }
+    ensures { λ r. ⌜ AnswerPromise (i .entry) r ⌝ }
 {
     i.answer
 }
 
 // The sections, each a part of the file's own bytes, by the answer at hand: nothing is read or tested again.
 pub fn pages<'a>(i: Image<'a>) -> &'a [u8]
-    ensures { λ r. ⌜ Pages (i .entry) r ⌝ }
+    ensures { λ r. ⌜ HandPagesPromise (i .entry) r ⌝ }
 {
     sections::pages_by_answer(i.file, i.answer)
 }
 
 pub fn rights<'a>(i: Image<'a>) -> &'a [u8]
-    ensures { λ r. ⌜ Rights (i .entry) r ⌝ }
+    ensures { λ r. ⌜ HandRightsPromise (i .entry) r ⌝ }
 {
     sections::rights_by_answer(i.file, i.answer)
 }

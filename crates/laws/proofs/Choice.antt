@@ -1,4 +1,4 @@
--- Laws of tests: of `&&` and `||`, of a row of tests, of a test at each number below a bound; and of `listBelow`. And what follows
+-- Laws of tests: of `&&` and `||`, of a choice, of a row of tests, of a test at each number below a bound; and of `listBelow`. And what follows
 -- where two constructors are one (`clash`, from `cc`).
 use mathlib.Core.Path.{_≡_, refl, sym, ap, ap₂, _∙_}
 use mathlib.Core.Bool.{Bool, true, false, _&&_, _||_, false≢true, true≢false}
@@ -8,10 +8,21 @@ use native.Mathlib.Nat.{le-of-suc-le-suc, not-suc-le-zero}
 use native.Mathlib.Omega.{arith}
 use native.Mathlib.Decide.{ℕ-discrete}
 use lib.ListN.{length, getD}
-use Rattle.model.specs.Choice.{passes, everyBelow, listBelow}
+use Rattle.model.specs.Choice.{if_then_else_, passes, everyBelow, listBelow}
 
 pub clash : {A : Type 0} → _≡_ {A = ℕ} 0 1 → A
 clash z = absurd (omega arith)
+
+-- two tests that pass together are the same
+pub same-test : (a b : Bool) → (a ≡ true → b ≡ true) → (b ≡ true → a ≡ true) → a ≡ b
+same-test true b f g = sym (f refl)
+same-test false true f g = g refl
+same-test false false f g = refl
+
+-- a test that cannot pass
+pub never : (t : Bool) → (t ≡ true → ⊥) → false ≡ t
+never true f = absurd (f refl)
+never false f = refl
 
 pub and-left : (a b : Bool) → (a && b) ≡ true → a ≡ true
 and-left true b e = refl
@@ -35,6 +46,11 @@ or-right false b e = e
 pub or-second : (a b : Bool) → (a || b) ≡ true → a ≡ false → b ≡ true
 or-second true b e f = absurd (true≢false f)
 or-second false b e f = e
+
+-- what both choices have, given what the test says, the choice has
+pub chosen : {A : Type 0} (P : A → Type 0) (b : Bool) {x y : A} → (b ≡ true → P x) → (b ≡ false → P y) → P (if b then x else y)
+chosen P true f g = f refl
+chosen P false f g = g refl
 
 -- ---- a test at each number below a bound
 pub every-at : (n : ℕ) (f : ℕ → Bool) → everyBelow n f ≡ true → (i : ℕ) → i < n → f i ≡ true

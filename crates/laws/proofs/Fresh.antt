@@ -4,7 +4,7 @@ use mathlib.Core.Path.{_≡_, refl, sym, ap, _∙_}
 use mathlib.Core.Bool.{false, true≢false}
 use mathlib.Core.Logic.{_⊎_, inl, inr}
 use mathlib.Core.List.{List, [], _∷_, _++_}
-use Prim.Native.Nat.{ℕ, zero, suc, _+_, _*_, _/_, _%_, _<_, _≤_}
+use Prim.Native.Nat.{ℕ, zero, suc, _+_, _*_, _<_, _≤_}
 use native.Mathlib.Omega.{arith}
 use native.Mathlib.Nat.{add-zero, zero-add, not-suc-le-zero, le-of-suc-le-suc}
 use lib.Dec.{eqb}
@@ -13,7 +13,7 @@ use lib.Seq.{getD-drop, ext-getD}
 use borrow.Author.Tests.{ne-eqb}
 use Rattle.model.specs.Words.{low, field}
 use Rattle.model.specs.Bytes.{number}
-use Rattle.model.specs.Pages.{virtual, pageOf}
+use Rattle.model.specs.Pages.{virtual, pageOf, offset, swapOf, swapAt}
 use Rattle.model.specs.Table.{entry, valid}
 use Rattle.model.specs.Translate.{flatByte}
 use Rattle.model.specs.Flat.{rightsByte, flatBytes, flatRights}
@@ -157,7 +157,7 @@ module _ (l : List ℕ) (m : Memory) (a : Accepted l m) where
   fresh-bytes =
       ext-getD 0 _ (pagesOf l) (length-below (4096 * ptlOf l) _ ∙ sym (length-pages l (a .formed)))
       (λ va q. let h : va < 4096 * ptlOf l = omega (arith, length-below (4096 * ptlOf l) (λ va. flatByte (p .machine .shape) (p .memory) va)) in
-      let e : 4096 * (0 + va / 4096) + va % 4096 ≡ va = omega arith in
+      let e : swapAt (swapOf (p .machine .shape) (pageOf va)) (offset va) ≡ va = omega arith in
       getD-below (4096 * ptlOf l) _ va 0 h
       ∙ flat-away (p .machine .shape) (p .memory) va (fresh-invalid (pageOf va) (omega arith))
       ∙ ap (λ (i : ℕ). getD (pagesOf l) i 0) e)

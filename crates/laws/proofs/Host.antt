@@ -117,7 +117,7 @@ module _ (s : Shape) (b : FrameBook) (m : Memory) (fit : Fit s (length (m .main)
           ∙ flat-here s m (4096 * x .0 + k) (ap (λ z. valid (entry s (m .main) z)) (at-page k h .0) ∙ v)
           ∙ ap₂ (λ (z : VirtualPage) (i : ℕ). getD (m .main) (mainAt (ppx (entry s (m .main) z)) i) 0) (at-page k h .0) (at-page k h .1))))
       pick false v =
-          rw v (page-same (m .swap) (flatBytes s m) (s .sbase + x .0) (x .0) (omega (arith, whole, inside)) long
+          rw v (page-same (m .swap) (flatBytes s m) (swapOf s x .0) (x .0) (omega (arith, whole, inside)) long
           (λ k h. sym (bytes-at s m (4096 * x .0 + k) (omega (arith, inside, h))
           ∙ flat-away s m (4096 * x .0 + k) (ap (λ z. valid (entry s (m .main) z)) (at-page k h .0) ∙ v)
           ∙ ap₂ (λ (z : VirtualPage) (i : ℕ). getD (m .swap) (swapAt (swapOf s z) i) 0) (at-page k h .0) (at-page k h .1))))

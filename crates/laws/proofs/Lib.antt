@@ -1,6 +1,9 @@
 -- The laws, each module over those before it.
 pub mod Choice
+pub mod Over
+pub mod Numbers
 pub mod Bytes
+pub mod Parts
 pub mod Seated
 pub mod Entries
 pub mod Table

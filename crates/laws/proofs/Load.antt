@@ -20,7 +20,7 @@ use Rattle.laws.specs.Good.{Fit, SwapLong, Hand, Seated, Good}
 use Rattle.laws.proofs.Choice.{below-same}
 use Rattle.laws.proofs.Entries.{ppx-brought, valid-brought, valid-out, rights-brought, rights-out}
 use Rattle.laws.proofs.Moves.{page-discrete}
-use Rattle.laws.proofs.Seats.{Seats, frame-free, frame-most, seats}
+use Rattle.laws.proofs.Seats.{Seats, frame-free, frame-most, frame-used, seats}
 use Rattle.laws.proofs.Handler.{Loads, strange, moved}
 -- the two cases of the definitions
 pub use Rattle.laws.proofs.Seats.{advanced-free, advanced-full}
@@ -167,6 +167,17 @@ module _ (s : Shape) (b : FrameBook) (m : Memory) (h : Fit s (length (m .main)))
 module _ (p : State) (g : Good p) (y : VirtualPage) (hy : y .0 < p .machine .shape .ptl) (hv : valid (entry (p .machine .shape) (p .memory .main) y) ≡ false) where
   one-load : PageLoaded (p .machine .shape) (p .machine .book) (p .memory) y
   one-load = loads (p .machine .shape) (p .machine .book) (p .memory) (g .fit) (g .whole) (g .seated) (g .hand) y hy hv
+
+  pub load-here : valid (entry (p .machine .shape) (load p y .memory .main) y) ≡ true
+  unfolding load
+  load-here = one-load .here
+
+  -- "the page loaded last is never the victim"
+  pub load-spares : p .machine .shape .frames ≤ load p y .machine .book .used
+      → y ≡ pageIn (load p y .machine .book) (frame (p .machine .shape .frames) (load p y .machine .book)) → ⊥
+  unfolding load
+  load-spares full q =
+      one-load .moves (one-load .seated .differ _ _ (frame-used (p .machine .shape .frames) _ (one-load .hand) full) (one-load .in-use) (sym q ∙ sym (one-load .put)))
 
   pub load-good : Good (load p y)
   unfolding load

@@ -42,7 +42,7 @@ module _ (s : Shape) (m : Memory) (h : Fit s (length (m .main))) (w : SwapLong s
   pub frame-fits : (f : ℕ) → f < s .frames → 4096 * (s .abase + f) + 4096 ≤ length (m .main)
   frame-fits f hf = omega (arith, h .main-long, h .frames-in)
 
-  pub swap-fits : (x : VirtualPage) → x .0 < s .ptl → 4096 * (s .sbase + x .0) + 4096 ≤ length (m .swap)
+  pub swap-fits : (x : VirtualPage) → x .0 < s .ptl → 4096 * (swapOf s x .0) + 4096 ≤ length (m .swap)
   swap-fits x hx = omega (arith, w)
 
   -- ---- page x leaves frame f
@@ -56,7 +56,7 @@ module _ (s : Shape) (m : Memory) (h : Fit s (length (m .main))) (w : SwapLong s
 
     pub out-swap-long : length (out s m f x .swap) ≡ length (m .swap)
     unfolding out
-    out-swap-long = length-withPage (m .swap) (s .sbase + x .0) (page (m .main) (s .abase + f)) (swap-fits x hx) leaving
+    out-swap-long = length-withPage (m .swap) (swapOf s x .0) _ (swap-fits x hx) (length-page _ _ (omega (arith, h .main-long, h .frames-in, w)))
 
     pub out-fit : Fit s (length (out s m f x .main))
     out-fit = subst⁻¹ (λ (n : ℕ). Fit s n) out-main-long h
@@ -82,7 +82,7 @@ module _ (s : Shape) (m : Memory) (h : Fit s (length (m .main))) (w : SwapLong s
         pick (yes q) =
             flat-away s (out s m f x) va (ap (λ z. valid (entry s (out s m f x .main) z)) q ∙ ap valid out-same ∙ valid-out (entry s (m .main) x))
             ∙ ap (λ z. getD (out s m f x .swap) (swapAt (swapOf s z) (offset va)) 0) q
-            ∙ withPage-same (m .swap) (s .sbase + x .0) (page (m .main) (s .abase + f)) (swap-fits x hx) leaving (offset va) (small-offset va)
+            ∙ withPage-same (m .swap) (swapOf s x .0) (page (m .main) (s .abase + f)) (swap-fits x hx) leaving (offset va) (small-offset va)
             ∙ getD-page (m .main) (s .abase + f) (offset va) (small-offset va)
             ∙ ap (λ (i : ℕ). getD (m .main) (4096 * i + offset va) 0) (sym (ap (λ z. ppx (entry s (m .main) z) .0) q ∙ hp))
             ∙ sym (flat-here s m va (ap (λ z. valid (entry s (m .main) z)) q ∙ hv))
@@ -90,28 +90,28 @@ module _ (s : Shape) (m : Memory) (h : Fit s (length (m .main))) (w : SwapLong s
             flat-same s m (out s m f x) va (out-other (pageOf va) q)
             (λ v. byte-above s (m .main) h x (putOut (entry s (m .main) x)) (mainAt (ppx (entry s (m .main) (pageOf va))) (offset va)) hx
             (omega (arith, above (pageOf va) hva v)))
-            (λ v. page-other (m .swap) (s .sbase + x .0) (s .sbase + pageOf va .0) (page (m .main) (s .abase + f)) (offset va) (swap-fits x hx) leaving
+            (λ v. page-other (m .swap) (swapOf s x .0) (swapOf s (pageOf va) .0) (page (m .main) (s .abase + f)) (offset va) (swap-fits x hx) leaving
             (small-offset va) (λ e. q (same-page (omega (arith, e)))))
 
   -- ---- page y comes into frame f
   module _ (f : ℕ) (y : VirtualPage) (hf : f < s .frames) (hy : y .0 < s .ptl) where
-    pub coming : length (page (m .swap) (s .sbase + y .0)) ≡ 4096
-    coming = length-page (m .swap) (s .sbase + y .0) (swap-fits y hy)
+    pub coming : length (page (m .swap) (swapOf s y .0)) ≡ 4096
+    coming = length-page (m .swap) (swapOf s y .0) (swap-fits y hy)
 
     -- main memory between the copy and the entry
     copied : List ℕ
-    copied = withPage (m .main) (s .abase + f) (page (m .swap) (s .sbase + y .0))
+    copied = withPage (m .main) (s .abase + f) (page (m .swap) (swapOf s y .0))
 
     copied-long : length copied ≡ length (m .main)
     unfolding copied
-    copied-long = length-withPage (m .main) (s .abase + f) (page (m .swap) (s .sbase + y .0)) (frame-fits f hf) coming
+    copied-long = length-withPage (m .main) (s .abase + f) (page (m .swap) (swapOf s y .0)) (frame-fits f hf) coming
 
     copied-fit : Fit s (length copied)
     copied-fit = subst⁻¹ (λ (n : ℕ). Fit s n) copied-long h
 
     copied-entry : (z : VirtualPage) → z .0 < s .ptl → entry s copied z ≡ entry s (m .main) z
     unfolding copied
-    copied-entry z hz = entry-page s (m .main) h (s .abase + f) (page (m .swap) (s .sbase + y .0)) z hz (omega arith) (frame-fits f hf) coming
+    copied-entry z hz = entry-page s (m .main) h (s .abase + f) (page (m .swap) (swapOf s y .0)) z hz (omega arith) (frame-fits f hf) coming
 
     small-frame : s .abase + f < 2 ^ 20
     small-frame = omega (arith, h .frames-in, h .pages-most)
@@ -156,13 +156,13 @@ module _ (s : Shape) (m : Memory) (h : Fit s (length (m .main))) (w : SwapLong s
             ∙ ap (λ (i : ℕ). getD (into s m f y .main) (4096 * i + offset va) 0)
             (ap (λ (k : ℕ). ppx k .0) e ∙ ppx-brought (frameAt s f) (entry s (m .main) y) small-frame)
             ∙ into-byte (4096 * (s .abase + f) + offset va) (omega arith)
-            ∙ withPage-same (m .main) (s .abase + f) (page (m .swap) (s .sbase + y .0)) (frame-fits f hf) coming (offset va) (small-offset va)
-            ∙ getD-page (m .swap) (s .sbase + y .0) (offset va) (small-offset va)
+            ∙ withPage-same (m .main) (s .abase + f) (page (m .swap) (swapOf s y .0)) (frame-fits f hf) coming (offset va) (small-offset va)
+            ∙ getD-page (m .swap) (swapOf s y .0) (offset va) (small-offset va)
             ∙ ap (λ z. getD (m .swap) (swapAt (swapOf s z) (offset va)) 0) (sym q)
             ∙ sym (flat-away s m va (ap (λ z. valid (entry s (m .main) z)) q ∙ hv))
         pick (no q) =
             flat-same s m (into s m f y) va (into-other (pageOf va) hva q)
             (λ v. into-byte (mainAt (ppx (entry s (m .main) (pageOf va))) (offset va)) (omega (arith, vacant (pageOf va) hva v .0))
-            ∙ page-other (m .main) (s .abase + f) (ppx (entry s (m .main) (pageOf va)) .0) (page (m .swap) (s .sbase + y .0)) (offset va)
+            ∙ page-other (m .main) (s .abase + f) (ppx (entry s (m .main) (pageOf va)) .0) (page (m .swap) (swapOf s y .0)) (offset va)
             (frame-fits f hf) coming (small-offset va) (vacant (pageOf va) hva v .1))
             (λ v. refl)

@@ -15,9 +15,9 @@ use Rattle.model.specs.declared.FrameBook.{FrameBook}
 use Rattle.model.specs.declared.VirtualPage.{VirtualPage}
 use Rattle.laws.specs.Good.{Fit, SwapLong, Hand, Seated}
 use Rattle.laws.specs.Named.{Off}
-use Rattle.laws.proofs.Bytes.{withPage-other}
+use Rattle.laws.proofs.Bytes.{length-page, withPage-other}
 use Rattle.laws.proofs.Table.{byte-other}
-use Rattle.laws.proofs.Moves.{frame-fits, swap-fits, leaving, coming, out-fit, out-whole}
+use Rattle.laws.proofs.Moves.{frame-fits, swap-fits, coming, out-fit, out-whole}
 use Rattle.laws.proofs.Seats.{frame-most}
 use Rattle.laws.proofs.Handler.{loaded-free, loaded-full}
 
@@ -30,13 +30,15 @@ module _ (s : Shape) (m : Memory) (h : Fit s (length (m .main))) (w : SwapLong s
 
   out-swap-off : Off (4096 * swapOf s x .0) 4096 i → getD (out s m f x .swap) i 0 ≡ getD (m .swap) i 0
   unfolding out
-  out-swap-off o = withPage-other (m .swap) (s .sbase + x .0) (page (m .main) (s .abase + f)) (swap-fits s m h w x hx) (leaving s m h w f x hf hx) i o
+  out-swap-off o =
+      withPage-other (m .swap) (swapOf s x .0) _ (swap-fits s m h w x hx)
+      (length-page _ _ (omega (arith, h .main-long, h .frames-in, w))) i o
 
   into-off : Off (4096 * s .abase) (4096 * s .frames) i → Off (entryAt s x) 4 i → getD (into s m f x .main) i 0 ≡ getD (m .main) i 0
   unfolding into
   into-off o r =
-      byte-other s (withPage (m .main) (s .abase + f) (page (m .swap) (s .sbase + x .0))) x _ i r
-      ∙ withPage-other (m .main) (s .abase + f) (page (m .swap) (s .sbase + x .0)) (frame-fits s m h w f hf) (coming s m h w f x hf hx) i
+      byte-other s (withPage (m .main) (s .abase + f) (page (m .swap) (swapOf s x .0))) x _ i r
+      ∙ withPage-other (m .main) (s .abase + f) (page (m .swap) (swapOf s x .0)) (frame-fits s m h w f hf) (coming s m h w f x hf hx) i
       (λ z. omega (arith, z, hf, o (omega (arith, z))))
 
 -- ---- a load

@@ -3,7 +3,7 @@
 use mathlib.Core.Path.{_≡_, refl, sym, ap, _∙_}
 use mathlib.Core.Bool.{Bool, true, false, _||_, not, false≢true, true≢false}
 use mathlib.Core.List.{List}
-use Prim.Native.Nat.{ℕ, zero, suc, _<_, _≤_}
+use Prim.Native.Nat.{ℕ, zero, suc, _+_, _*_, _<_, _≤_}
 use native.Mathlib.Omega.{arith}
 use native.Mathlib.Nat.{not-suc-le-zero}
 use native.Mathlib.Decide.{decLt, ℕ-discrete}
@@ -57,7 +57,7 @@ fit-of s m e = (
     ptl-least = leb-true _ _ (t 6);
     ptl-most = leb-true _ _ (t 7);
     pto-aligned = eqb-true _ _ (t 8);
-    table-in = leb-true _ _ (t 9);
+    table-in = omega (arith, leb-true (s .pto + 4 * s .ptl) (4096 * s .abase) (t 9));
     sbase-most = leb-true _ _ (t 10);
     main-long = eqb-true _ _ (t 11);
   },
@@ -74,7 +74,7 @@ fits-of s m f w =
     (pass-more _ _ (le-leb _ _ (f .frames-least)) (pass-more _ _ (le-leb _ _ (f .frames-most))
     (pass-more _ _ (le-leb _ _ (f .abase-least)) (pass-more _ _ (le-leb _ _ (f .frames-in))
     (pass-more _ _ (le-leb _ _ (f .ptl-least)) (pass-more _ _ (le-leb _ _ (f .ptl-most))
-    (pass-more _ _ (eq-eqb _ _ (f .pto-aligned)) (pass-more _ _ (le-leb _ _ (f .table-in))
+    (pass-more _ _ (eq-eqb _ _ (f .pto-aligned)) (pass-more _ _ (le-leb (s .pto + 4 * s .ptl) (4096 * s .abase) (omega (arith, f .table-in)))
     (pass-more _ _ (le-leb _ _ (f .sbase-most))
     (pass-more _ _ (eq-eqb _ _ (f .main-long)) (pass-more _ _ (eq-eqb _ _ w) pass-none))))))))))))
 

@@ -3,11 +3,10 @@
 use mathlib.Core.Path.{_≡_, sym, ap, subst, _∙_}
 use mathlib.Core.Bool.{true, false, true≢false}
 use mathlib.Core.List.{List}
-use Prim.Native.Nat.{ℕ, zero, suc, _≤_}
+use Prim.Native.Nat.{ℕ, zero, suc}
 use Rattle.model.specs.Bytes.{number}
 use Rattle.model.specs.Pages.{pageOf}
 use Rattle.model.specs.Table.{entry, valid}
-use Rattle.model.specs.Frames.{pageIn, frame}
 use Rattle.model.specs.Instruction.{plan}
 use Rattle.model.specs.State.{State}
 use Rattle.model.specs.Handler.{load}
@@ -17,8 +16,7 @@ use Rattle.model.specs.declared.Shape.{Shape}
 use Rattle.model.specs.declared.VirtualPage.{VirtualPage}
 use Rattle.model.specs.declared.Outcome.the-variants.{Missing}
 use Rattle.laws.specs.Good.{Good}
-use Rattle.laws.proofs.Seats.{frame-used}
-use Rattle.laws.proofs.Load.{PageLoaded, loads, load-good, load-flat}
+use Rattle.laws.proofs.Load.{PageLoaded, loads, load-good, load-flat, load-spares}
 use Rattle.laws.proofs.Agree.{address}
 use Rattle.laws.proofs.Attempt.{Misses, for-code, for-data, missed, missing}
 
@@ -79,17 +77,9 @@ module _ (p : State) (g : Good p) (u : ℕ) (e : try p .outcome ≡ Missing u) (
   unfolding load
   differs = other (p .machine .shape) (p₁ .memory .main) (pageOf u) (pageOf v) (l₁ .here) (missing p₁ v e′ .1)
 
-  -- "the page loaded last is never the victim"
-  survives : p₁ .machine .shape .frames ≤ p₁ .machine .book .used
-      → pageOf u ≡ pageIn (p₁ .machine .book) (frame (p₁ .machine .shape .frames) (p₁ .machine .book)) → ⊥
-  unfolding load
-  survives full q =
-      l₁ .moves (g₁ .seated .differ (frame (p .machine .shape .frames) (p₁ .machine .book)) (frame (p .machine .shape .frames) (p .machine .book))
-      (frame-used (p .machine .shape .frames) (p₁ .machine .book) (g₁ .hand) full) (l₁ .in-use) (sym q ∙ sym (l₁ .put)))
-
   stays : valid (entry (p .machine .shape) (load p₁ (pageOf v) .memory .main) (pageOf u)) ≡ true
   unfolding load
-  stays = ap valid (l₂ .stays (pageOf u) (missing p u e .0) differs survives) ∙ l₁ .here
+  stays = ap valid (l₂ .stays (pageOf u) (missing p u e .0) differs (load-spares p g (pageOf u) (missing p u e .0) (missing p u e .1))) ∙ l₁ .here
 
   pub third : (w : ℕ) → try (load (load p (pageOf u)) (pageOf v)) .outcome ≡ Missing w → ⊥
   unfolding load

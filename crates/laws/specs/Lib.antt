@@ -4,3 +4,4 @@ pub mod Mapped
 pub mod Demand2
 pub mod Named
 pub mod Formed
+pub mod Over

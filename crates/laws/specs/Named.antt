@@ -1,5 +1,5 @@
 -- "Outside the frames, a call changes main memory only in the table entries that a page load names": the pages that the handler's
--- steps name, brought in or put out, along the definitions of an instruction, a run and a call.
+-- steps name, brought in or put out, along the definitions of an instruction, a run and a call; and the victims alone.
 use mathlib.Core.List.{List, [], _∷_, _++_}
 use Prim.Native.Nat.{ℕ, zero, suc, _+_, _≤_}
 use Rattle.model.specs.Choice.{if_then_else_}
@@ -21,9 +21,12 @@ use Rattle.model.specs.declared.Outcome.the-variants.{Done, Trapped, Missing, S
 abbrev pub Off : ℕ → ℕ → ℕ → Type 0
 Off i n j = i ≤ j → i + n ≤ j
 
--- one step of the handler, with a frames: the page that comes, and the one that leaves where no frame is free
+-- one step of the handler, with a frames: the victim, where no frame is free, and with it the page that comes
+abbrev pub loadVictims : ℕ → FrameBook → List VirtualPage
+loadVictims a b = if free a b then [] else pageIn b (frame a b) ∷ []
+
 abbrev pub loadNames : ℕ → FrameBook → VirtualPage → List VirtualPage
-loadNames a b y = y ∷ (if free a b then [] else pageIn b (frame a b) ∷ [])
+loadNames a b y = y ∷ loadVictims a b
 
 -- what follows an attempt: only one that misses a page names any
 abbrev pub namesAfter : Outcome → (ℕ → List VirtualPage) → List VirtualPage
@@ -32,37 +35,56 @@ namesAfter (Trapped pcs n) again = []
 namesAfter (Missing va) again = again va
 namesAfter (Stopped s) again = []
 
--- an instruction with at most k page loads, as `attempts`
-unfoldable pub attemptsNames : ℕ → State → List VirtualPage
-attemptsNames zero p = []
-attemptsNames (suc k) p =
-    namesAfter (try p .outcome)
-    (λ va. loadNames (p .machine .shape .frames) (p .machine .book) (pageOf va) ++ attemptsNames k (load p (pageOf va)))
-
-unfoldable pub instructionNames : State → List VirtualPage
-instructionNames p = attemptsNames 2 p
-
 -- what follows an instruction that goes on
 abbrev pub namesOnward : Step Counted → (Counted → List VirtualPage) → List VirtualPage
 namesOnward (goes c) rest = rest c
 namesOnward (stops s n c) rest = []
 
--- a run of at most n instructions, as `run`
-unfoldable pub runNames : ℕ → Counted → List VirtualPage
-runNames zero c = []
-runNames (suc n) c = instructionNames (c .state) ++ namesOnward (instruction c) (λ next. runNames n next)
-
--- a call, by what a run of so many instructions names: only a run that is granted names any
+-- only a run that is granted names any
 abbrev pub namesGranted : Verdict → List VirtualPage → List VirtualPage
 namesGranted Granted names = names
 namesGranted (Refused r) names = []
 
-abbrev pub namesOfCall : (State → ℕ → List VirtualPage) → State → Call → List VirtualPage
-namesOfCall ofRun p (runs n) = namesGranted (runVerdict p n) (ofRun p n)
-namesOfCall ofRun p (reads va n) = []
-namesOfCall ofRun p (writes va bytes) = []
-namesOfCall ofRun p (views x) = []
-namesOfCall ofRun p (replies i v) = []
+-- ---- what is told of the load of each page that is missed, by the state then, one load after another
+module _ (told : State → VirtualPage → List VirtualPage) where
+  -- an instruction with at most k page loads, as `attempts`
+  unfoldable pub alongAttempts : ℕ → State → List VirtualPage
+  alongAttempts zero p = []
+  alongAttempts (suc k) p = namesAfter (try p .outcome) (λ va. told p (pageOf va) ++ alongAttempts k (load p (pageOf va)))
 
-unfoldable pub callNames : State → Call → List VirtualPage
-callNames p c = namesOfCall (λ q n. runNames n (uncounted q)) p c
+  unfoldable pub alongInstruction : State → List VirtualPage
+  alongInstruction p = alongAttempts 2 p
+
+  -- a run of at most n instructions, as `run`
+  unfoldable pub alongRun : ℕ → Counted → List VirtualPage
+  alongRun zero c = []
+  alongRun (suc n) c = alongInstruction (c .state) ++ namesOnward (instruction c) (λ next. alongRun n next)
+
+  unfoldable pub alongCall : State → Call → List VirtualPage
+  alongCall p (runs n) = namesGranted (runVerdict p n) (alongRun n (uncounted p))
+  alongCall p (reads va n) = []
+  alongCall p (writes va bytes) = []
+  alongCall p (views x) = []
+  alongCall p (replies i v) = []
+
+-- ---- the pages that are named, and the victims among them
+abbrev pub names : State → VirtualPage → List VirtualPage
+names p y = loadNames (p .machine .shape .frames) (p .machine .book) y
+
+abbrev pub victims : State → VirtualPage → List VirtualPage
+victims p y = loadVictims (p .machine .shape .frames) (p .machine .book)
+
+abbrev pub instructionNames : State → List VirtualPage
+instructionNames p = alongInstruction names p
+
+abbrev pub runNames : ℕ → Counted → List VirtualPage
+runNames n c = alongRun names n c
+
+abbrev pub callNames : State → Call → List VirtualPage
+callNames p c = alongCall names p c
+
+abbrev pub instructionVictims : State → List VirtualPage
+instructionVictims p = alongInstruction victims p
+
+abbrev pub runVictims : ℕ → Counted → List VirtualPage
+runVictims n c = alongRun victims n c

@@ -27,11 +27,22 @@ pub(crate) fn room(frames: u32, ptl: u32, main: usize, swap: usize) -> bool
     ensures { λ r. ⌜ r ≡ image.room frames ptl main swap ⌝ }
 {
     let pages = main / 4096;
-    (main % 4096 == 0)
-        & (3 <= pages)
-        & (pages <= 64)
-        & (1 + (meant(frames) as usize) <= pages)
-        & (swap == 4096 * (ptl as usize))
+    if main % 4096 != 0 {
+        return false;
+    }
+    if pages < 3 {
+        return false;
+    }
+    if pages > 64 {
+        return false;
+    }
+    if 1 + (meant(frames) as usize) > pages {
+        return false;
+    }
+    if swap != 4096 * (ptl as usize) {
+        return false;
+    }
+    true
 }
 
 // All but shape and program counters is 0.
@@ -71,7 +82,7 @@ pub(crate) fn machine(main: usize, frames: u32, ptl: u32, start: u32) -> Machine
 }
 
 // "from loading, a record of zeros"
-pub(crate) fn refused(refusal: Refusal) -> Handed
+pub fn refused(refusal: Refusal) -> Handed
     ensures { λ r. ⌜ r ≡ fresh.refusedBy refusal ⌝ }
 {
     let shape = Shape {

@@ -3,18 +3,15 @@ use model::Handed;
 use model::ImageAnswer;
 use model::Refusal;
 use model::Verdict;
-ghost use mathlib.Core.Path.{_≡_};
-ghost use Rattle.model.specs.Answers.{verdictNumbers};
-ghost use Rattle.model.specs.State.{memory, state};
-ghost use Rattle.model.specs.Image.{loadCall};
+ghost use Rattle.model.specs.State.{memory};
+ghost use Rattle.model.specs.Promises.{LoadPromise};
 
-mod fresh;
+pub mod fresh;
 mod memory;
 
 // Refused 5 and 6 by the image, then 7 by the lent memories; then both memories are filled.
 pub fn load(file: &[u8], main: &mut [u8], swap: &mut [u8]) -> Handed
-    ensures { λ r. ⌜ record { verdict = verdictNumbers (r .verdict); state = state (r .machine) (now (main .exit)) (now (swap .exit)) }
-        ≡ loadCall (now (file .entry)) (memory (now (main .entry)) (now (swap .entry))) ⌝ }
+    ensures { λ r. ⌜ LoadPromise (now (file .entry)) (memory (now (main .entry)) (now (swap .entry))) r (now (main .exit)) (now (swap .exit)) ⌝ }
 {
     match image::read(file) {
         ImageAnswer::NotImage(refusal) => fresh::refused(refusal),

@@ -1,13 +1,16 @@
 -- The outcome of each call, by its verdict.
-use mathlib.Core.Path.{_≡_, refl}
+use mathlib.Core.Path.{_≡_, refl, ap, _∙_}
 use mathlib.Core.Bool.{true, false}
-use mathlib.Core.List.{List, []}
+use mathlib.Core.List.{List}
 use Prim.Native.Nat.{ℕ}
 use lib.ListN.{length, set}
-use Rattle.model.specs.State.{State, Memory}
+use denote.Ref.{RefT, now}
+use Rattle.model.specs.State.{State, Memory, memory, state}
 use Rattle.model.specs.Answers.{verdictNumbers}
-use Rattle.model.specs.Run.{run, instruction, uncounted}
-use Rattle.model.specs.Calls.{runVerdict, runOutcome, reported, runCall, hostVerdict, bytesFrom, readCall, bytesTo, writeCall, viewVerdict, pageBytes, viewBy, viewCall, replyVerdict, replyCall}
+use Rattle.model.specs.Run.{Course, Counted, run, instruction, uncounted}
+use Rattle.model.specs.Calls.{runVerdict, runOutcome, reported, runCall, hostVerdict, bytesFrom, readCall, bytesTo, writeCall, viewVerdict, viewBy, viewCall, replyVerdict, replyCall}
+use Rattle.model.specs.Parts.{PartOf, noPart, pageHome, pagePart}
+use Rattle.model.specs.Promises.{PageViewPromise}
 use Rattle.model.specs.declared.Machine.{Machine}
 use Rattle.model.specs.declared.VirtualPage.{VirtualPage}
 use Rattle.model.specs.declared.Refusal.{Refusal}
@@ -24,6 +27,11 @@ module _ (p : State) (n : ℕ) (v : Verdict) (e : v ≡ runVerdict p n) where
   pub run-done : v ≡ Granted → reported (run instruction n (uncounted p)) ≡ runCall p n
   unfolding runCall
   run-done h = simp (← e, h)
+
+-- the course c of n instructions, which are as many as were asked for
+pub ran : (p : State) (limit n : ℕ) (c : Course Counted) → c ≡ run instruction n (uncounted p) → n ≡ limit
+    → reported c ≡ reported (run instruction limit (uncounted p))
+ran p limit n c is all = ap reported (is ∙ ap (λ k. run instruction k (uncounted p)) all)
 
 -- ---- host read
 module _ (p : State) (va : ℕ) (buffer : List ℕ) (v : Verdict) (e : v ≡ hostVerdict false p va (length buffer)) where
@@ -59,13 +67,16 @@ module _ (p : State) (x : VirtualPage) (v : Verdict) (e : v ≡ viewVerdict p x)
       number Granted = refl
       number (Refused r) = refl
 
-  pub view-refused : (r : Refusal) → v ≡ Refused r → [] ≡ viewCall p x .part
+-- the part that is handed back
+module _ (m : Machine) (main swap : RefT (List ℕ)) (x : VirtualPage) (v : Verdict) (e : v ≡ viewVerdict (state m (now main) (now swap)) x) where
+  pub view-refused : (r : Refusal) → v ≡ Refused r → (b : RefT (List ℕ)) → PartOf main noPart b → PageViewPromise m main swap x b
   unfolding viewCall
-  view-refused r h = simp (← e, h)
+  view-refused r h b q = rw (← e, h) q
 
-  pub view-done : v ≡ Granted → (b : List ℕ) → b ≡ pageBytes (p .machine .shape) (p .memory) x → b ≡ viewCall p x .part
+  pub view-done : v ≡ Granted → (b : RefT (List ℕ))
+      → PartOf (pageHome (m .shape) main swap x) (pagePart (m .shape) (memory (now main) (now swap)) x) b → PageViewPromise m main swap x b
   unfolding viewCall
-  view-done h b q = simp (← e, h, q)
+  view-done h b q = rw (← e, h) q
 
 -- ---- reply
 module _ (m : Machine) (i x : ℕ) (v : Verdict) (e : v ≡ replyVerdict i) where
@@ -74,7 +85,8 @@ module _ (m : Machine) (i x : ℕ) (v : Verdict) (e : v ≡ replyVerdict i) wher
   unfolding replyCall
   reply-refused r h = simp (← e, h)
 
-  pub reply-done : v ≡ Granted
-      → record { verdict = verdictNumbers Granted; machine = record { shape = m .shape; book = m .book; gpr = set (m .gpr) i x; pcs = m .pcs } } ≡ replyCall m i x
+  -- the code sets register k
+  pub reply-done : v ≡ Granted → (k : ℕ) → k ≡ i
+      → record { verdict = verdictNumbers Granted; machine = record { shape = m .shape; book = m .book; gpr = set (m .gpr) k x; pcs = m .pcs } } ≡ replyCall m i x
   unfolding replyCall
-  reply-done h = simp (← e, h)
+  reply-done h k is = simp (← e, h, is)

@@ -1,7 +1,6 @@
 // The calls that a host makes on a machine: run, host read, host write, page view and reply. They ask nothing of their caller: each
 // takes the verdict on what it is handed, acts where nothing is refused, and names its complete outcome.
 use host::transfer;
-use host::verdict;
 use host::view;
 use model::Handed;
 use model::Machine;
@@ -14,13 +13,12 @@ ghost use Prim.Native.Nat.{_≤_};
 ghost use Rattle.model.specs.State.{state};
 ghost use Rattle.model.specs.Run.{run, instruction, uncounted};
 ghost use Rattle.laws.specs.Good.{Good};
-ghost use Rattle.model.specs.Answers.{verdictNumbers};
 ghost use Rattle.model.specs.Calls as calls;
+ghost use Rattle.model.specs.Promises as promises;
 
 // "Run returns the stop, a detail, instructions finished, pages loaded."
 pub fn run(m: Machine, main: &mut [u8], swap: &mut [u8], limit: u32) -> RunResult
-    ensures { λ r. ⌜ calls.runOutcome (r .answer) (state (r .machine) (now (main .exit)) (now (swap .exit)))
-        ≡ calls.runCall (state m (now (main .entry)) (now (swap .entry))) limit ⌝ }
+    ensures { λ r. ⌜ promises.RunPromise (state m (now (main .entry)) (now (swap .entry))) limit r (now (main .exit)) (now (swap .exit)) ⌝ }
 {
     match verdict::run_verdict(m, main, swap, limit) {
         Verdict::Refused(r) => RunResult {
@@ -62,8 +60,7 @@ fn run_sound(m: Machine, main: &mut [u8], swap: &mut [u8], limit: u32) -> RunRes
 
 // "Host read fills a lent buffer".
 pub fn host_read(m: Machine, main: &[u8], swap: &[u8], va: u32, into: &mut [u8]) -> Verdict
-    ensures { λ r. ⌜ record { verdict = verdictNumbers r; buffer = now (into .exit) }
-        ≡ calls.readCall (state m (now (main .entry)) (now (swap .entry))) va (now (into .entry)) ⌝ }
+    ensures { λ r. ⌜ promises.ReadPromise (state m (now (main .entry)) (now (swap .entry))) va (now (into .entry)) r (now (into .exit)) ⌝ }
 {
     let s = m.shape;
     match verdict::host_verdict(m, main, swap, false, va, into.len()) {
@@ -77,8 +74,8 @@ pub fn host_read(m: Machine, main: &[u8], swap: &[u8], va: u32, into: &mut [u8])
 
 // "host write takes one".
 pub fn host_write(m: Machine, main: &mut [u8], swap: &mut [u8], va: u32, from: &[u8]) -> Handed
-    ensures { λ r. ⌜ record { verdict = verdictNumbers (r .verdict); state = state (r .machine) (now (main .exit)) (now (swap .exit)) }
-        ≡ calls.writeCall (state m (now (main .entry)) (now (swap .entry))) va (now (from .entry)) ⌝ }
+    ensures { λ r. ⌜ promises.WritePromise (state m (now (main .entry)) (now (swap .entry))) va (now (from .entry)) r
+        (now (main .exit)) (now (swap .exit)) ⌝ }
 {
     let s = m.shape;
     match verdict::host_verdict(m, main, swap, true, va, from.len()) {
@@ -98,14 +95,14 @@ pub fn host_write(m: Machine, main: &mut [u8], swap: &mut [u8], va: u32, from: &
 
 // The page view in two calls: what it answers, and the part that it hands back.
 pub fn view_answer<'a>(m: Machine, main: &'a [u8], swap: &'a [u8], page: VirtualPage) -> Verdict
-    ensures { λ r. ⌜ verdictNumbers r ≡ calls.viewCall (state m (now (main .entry)) (now (swap .entry))) page .verdict ⌝ }
+    ensures { λ r. ⌜ promises.ViewAnswerPromise (state m (now (main .entry)) (now (swap .entry))) page r ⌝ }
 {
     verdict::view_verdict(m, main, swap, page)
 }
 
 // "hands back the 4096 bytes of a readable page", "an empty part" where it is refused.
 pub fn page_view<'a>(m: Machine, main: &'a [u8], swap: &'a [u8], page: VirtualPage) -> &'a [u8]
-    ensures { λ r. ⌜ now r ≡ calls.viewCall (state m (now (main .entry)) (now (swap .entry))) page .part ⌝ }
+    ensures { λ r. ⌜ promises.PageViewPromise m (main .entry) (swap .entry) page r ⌝ }
 {
     let s = m.shape;
     match verdict::view_verdict(m, main, swap, page) {
@@ -116,7 +113,7 @@ pub fn page_view<'a>(m: Machine, main: &'a [u8], swap: &'a [u8], page: VirtualPa
 
 // "Reply sets one of GPR 1 to 31."
 pub fn reply(m: Machine, register: u32, value: u32) -> Handed
-    ensures { λ r. ⌜ record { verdict = verdictNumbers (r .verdict); machine = r .machine } ≡ calls.replyCall m register value ⌝ }
+    ensures { λ r. ⌜ promises.ReplyPromise m register value r ⌝ }
 {
     match verdict::reply_verdict(register) {
         Verdict::Refused(r) => Handed {

@@ -1,9 +1,11 @@
--- Section "Console images", its end: what the program writes, byte by byte, for what it reads.
+-- Section "Console images", its end: what the program writes, byte by byte, for what it reads; and what it leaves in the memories that
+-- it is lent.
 use mathlib.Core.List.{List, [], _∷_, _++_}
 use Prim.Native.Nat.{ℕ, zero, suc, _+_, _*_, _/_, _%_}
 use lib.Dec.{eqb, leb, ltb}
-use lib.ListN.{length, replicate}
+use lib.ListN.{length, take, drop, replicate}
 use Rattle.model.specs.Choice.{if_then_else_}
+use Rattle.model.specs.State.{Memory}
 use Rattle.model.specs.Answers.{refusalNumber, VerdictNumbers, RunNumbers}
 use Rattle.model.specs.Calls.{unless, RunOutcome, runCall, StateOutcome}
 use Rattle.model.specs.Image.{ptlOf, imageVerdict, loadCall}
@@ -68,7 +70,28 @@ imageLines Granted l = loadedLines (loadCall l (record { main = replicate 20480 
 imageLines (Refused r) l = refusedLine (refusalNumber r)
 
 -- "A longer input prints `refused 7` by its length alone. Otherwise a ptl above 4 prints `refused 7`, unless 5 or 6 applies."
+unfoldable pub consoleVerdict : List ℕ → Verdict
+consoleVerdict input = unless (leb (length input) 17436) Room (imageVerdict input (unless (leb (ptlOf input) 4) Room Granted))
+
 unfoldable pub consoleText : List ℕ → List ℕ
-consoleText input =
-    if leb (length input) 17436 then imageLines (imageVerdict input (unless (leb (ptlOf input) 4) Room Granted)) input
-    else refusedLine (refusalNumber Room)
+consoleText input = imageLines (consoleVerdict input) input
+
+-- ---- what the lent memories hold afterwards
+-- where loading is refused "no lent byte differs", else what the run leaves
+abbrev pub loadedMemory : StateOutcome → Memory
+loadedMemory l = if eqb (l .verdict .refused) 0 then runCall (l .state) 1000 .state .memory else l .state .memory
+
+-- "Swap must be 4096·ptl bytes": of swap the image's n pages are lent to the machine
+abbrev pub lentPages : ℕ → Memory → Memory
+lentPages n m = record { main = m .main; swap = take (4096 * n) (m .swap) }
+
+-- what the machine left, and swap behind those pages as it was
+abbrev pub withOthers : ℕ → Memory → Memory → Memory
+withOthers n left m = record { main = left .main; swap = left .swap ++ drop (4096 * n) (m .swap) }
+
+abbrev pub imageMemory : Verdict → List ℕ → Memory → Memory
+imageMemory Granted l m = withOthers (ptlOf l) (loadedMemory (loadCall l (lentPages (ptlOf l) m))) m
+imageMemory (Refused r) l m = m
+
+unfoldable pub consoleMemory : List ℕ → Memory → Memory
+consoleMemory input m = imageMemory (consoleVerdict input) input m

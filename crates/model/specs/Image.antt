@@ -32,12 +32,18 @@ startOf l = trailer l 3
 abbrev pub framesOf : List ℕ → ℕ
 framesOf l = trailer l 4
 
--- the sections, as parts of the file
+-- the sections, as parts of the file, and where they begin in it
+abbrev pub rightsPlace : List ℕ → ℕ
+rightsPlace l = length l - (24 + ptlOf l)
+
 unfoldable pub rightsOf : List ℕ → List ℕ
-rightsOf l = take (ptlOf l) (drop (length l - (24 + ptlOf l)) l)
+rightsOf l = take (ptlOf l) (drop (rightsPlace l) l)
+
+abbrev pub pagesPlace : List ℕ → ℕ
+pagesPlace l = length l - (24 + ptlOf l + 4096 * ptlOf l)
 
 unfoldable pub pagesOf : List ℕ → List ℕ
-pagesOf l = take (4096 * ptlOf l) (drop (length l - (24 + ptlOf l + 4096 * ptlOf l)) l)
+pagesOf l = take (4096 * ptlOf l) (drop (pagesPlace l) l)
 
 -- "5: image under 24 bytes, or edition not 1"
 unfoldable pub known : List ℕ → Bool

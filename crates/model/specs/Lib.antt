@@ -16,5 +16,7 @@ pub mod Order
 pub mod Answers
 pub mod Calls
 pub mod Image
+pub mod Parts
+pub mod Promises
 pub mod Console
 pub mod Series

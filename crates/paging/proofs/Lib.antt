@@ -1,5 +1,2 @@
 -- Laws that the proofs of the functions cite.
 pub mod Ways
-pub mod Loops
-pub mod Resident
-pub mod Rows

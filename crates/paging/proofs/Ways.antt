@@ -1,12 +1,13 @@
 -- The ways out of the code over table and handler: a law for each, over plain variables.
-use mathlib.Core.Path.{_≡_, refl, sym, ap, _∙_}
+use mathlib.Core.Path.{_≡_, refl, sym, ap, ap₂, _∙_}
 use mathlib.Core.Bool.{Bool, true, false, not}
 use mathlib.Core.List.{List}
 use Prim.Native.Nat.{ℕ, _/_, _%_, _≤_, _<_}
 use borrow.Author.Tests.{lt-ltb, le-ltb, eq-eqb, ne-eqb, not-true, not-false}
 use lib.Dec.{ltb, eqb}
 use Rattle.model.specs.Choice.{if_then_else_}
-use Rattle.model.specs.Pages.{pageOf, offset, mainAt, frameAt, swapOf, mainPage, withMainPage, swapPage, withSwapPage}
+use Rattle.model.specs.Bytes.{store}
+use Rattle.model.specs.Pages.{entryAt, pageOf, offset, mainAt, frameAt, swapOf, mainPage, withMainPage, swapPage, withSwapPage}
 use Rattle.model.specs.Table.{entry, withEntry, ppx, valid, putOut, broughtTo}
 use Rattle.model.specs.Translate.{has, translate}
 use Rattle.model.specs.Frames.{frame, pageIn, advanced}
@@ -55,6 +56,12 @@ module _ (s : Shape) (main : List ℕ) (writing : Bool) (va : ℕ) (x : VirtualP
     is-here y v p hp i hi =
         ap At (hi ∙ ap (λ z. mainAt z (offset va)) (hp ∙ ap ppx (sym read)))
         ∙ sym (translate-at s main writing va below (right ∙ not-false r y) (ap valid read ∙ eq-eqb _ _ v))
+
+-- ---- an entry: the word w is stored at place i
+pub entry-written : (s : Shape) (main : List ℕ) (x : VirtualPage) (e : ℕ) (main′ : List ℕ) (i w : ℕ) → main′ ≡ store 4 main i w → i ≡ entryAt s x → w ≡ e
+    → main′ ≡ withEntry s main x e
+unfolding withEntry
+entry-written s main x e main′ i w is place word = is ∙ ap₂ (λ j v. store 4 main j v) place word
 
 -- ---- a load
 module _ (s : Shape) (b : FrameBook) (m : Memory) where

@@ -1,3 +1,2 @@
--- What the contracts of the handler and of the checks name.
+-- What the contracts of the handler name.
 pub mod Ready
-pub mod Holds

@@ -1,6 +1,4 @@
-// Paging: the translation of addresses, the page handler, and the checks of shape and soundness.
-pub mod check;
+// Paging: the translation of addresses and the page handler.
 pub mod handler;
 pub mod pages;
-mod seats;
 pub mod table;

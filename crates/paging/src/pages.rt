@@ -15,7 +15,7 @@ pub const NOWHERE: VirtualPage = VirtualPage(1048576);
 pub const NO_FRAME: MainPage = MainPage(0);
 
 // Virtual page number x.
-pub(crate) fn virtual_page(x: u32) -> VirtualPage
+pub fn virtual_page(x: u32) -> VirtualPage
     ensures { λ r. ⌜ r ≡ rule.virtual x ⌝ }
 {
     VirtualPage(x)

@@ -12,21 +12,23 @@ ghost use Rattle.model.specs.State.{memory, state};
 ghost use Rattle.model.specs.Answers.{refusalNumber};
 ghost use Rattle.model.specs.Calls.{runCall};
 ghost use Rattle.model.specs.Image.{loadCall};
-ghost use Rattle.model.specs.Console.{refusedLine, runLines, loadedLines, consoleText};
-ghost use Rattle.text.specs.Text.{Written};
+ghost use Rattle.model.specs.Console.{refusedLine, runLines, loadedLines, loadedMemory};
+ghost use Rattle.text.specs.Text.{Appended};
+ghost use Rattle.program.specs.Promises.{ConsolePromise};
 
 // "the one line `refused` with the number"
 fn refuse(refusal: Refusal, out: &mut [u8]) -> usize
     requires { ⌜ 128 ≤ length (now out) ⌝ }
-    ensures { λ r. ⌜ Written (now (out .exit)) r (refusedLine (refusalNumber refusal)) ⌝ }
+    ensures { λ r. ⌜ Appended (now (out .entry)) 0 (now (out .exit)) r (refusedLine (refusalNumber refusal)) ⌝ }
 {
-    lines::refused_line(out, answers::refusal_number(refusal))
+    lines::refused_line(out, 0, answers::refusal_number(refusal))
 }
 
 // "runs at most 1000 instructions"
 fn run_and_print(m: Machine, main: &mut [u8], swap: &mut [u8], out: &mut [u8]) -> usize
     requires { ⌜ 128 ≤ length (now out) ⌝ }
-    ensures { λ r. ⌜ Written (now (out .exit)) r (runLines (runCall (state m (now (main .entry)) (now (swap .entry))) 1000)) ⌝ }
+    ensures { λ r. ⌜ Appended (now (out .entry)) 0 (now (out .exit)) r (runLines (runCall (state m (now (main .entry)) (now (swap .entry))) 1000))
+        × (memory (now (main .exit)) (now (swap .exit)) ≡ runCall (state m (now (main .entry)) (now (swap .entry))) 1000 .state .memory) ⌝ }
 {
     let result = machine::run(m, main, swap, 1000);
     let dpc = result.machine.pcs.dpc;
@@ -39,6 +41,7 @@ fn run_and_print(m: Machine, main: &mut [u8], swap: &mut [u8], out: &mut [u8]) -
             loads,
         } => lines::four_lines(
             out,
+            0,
             answers::stop_number(stop),
             answers::stop_detail(stop),
             finished,
@@ -50,8 +53,10 @@ fn run_and_print(m: Machine, main: &mut [u8], swap: &mut [u8], out: &mut [u8]) -
 
 fn load_and_run(input: &[u8], main: &mut [u8], swap: &mut [u8], out: &mut [u8]) -> usize
     requires { ⌜ 128 ≤ length (now out) ⌝ }
-    ensures { λ r. ⌜ Written (now (out .exit)) r
-        (loadedLines (loadCall (now (input .entry)) (memory (now (main .entry)) (now (swap .entry))))) ⌝ }
+    ensures { λ r. ⌜ Appended (now (out .entry)) 0 (now (out .exit)) r
+        (loadedLines (loadCall (now (input .entry)) (memory (now (main .entry)) (now (swap .entry)))))
+        × (memory (now (main .exit)) (now (swap .exit))
+        ≡ loadedMemory (loadCall (now (input .entry)) (memory (now (main .entry)) (now (swap .entry))))) ⌝ }
 {
     let handed = loading::load(input, main, swap);
     let machine = handed.machine;
@@ -66,7 +71,8 @@ fn load_and_run(input: &[u8], main: &mut [u8], swap: &mut [u8], out: &mut [u8]) 
 // `refused 7` by its length alone. Otherwise a ptl above 4 prints `refused 7`, unless 5 or 6 applies."
 pub fn console(input: &[u8], main: &mut [u8], swap: &mut [u8], out: &mut [u8]) -> usize
     requires { ⌜ (length (now main) ≡ 20480) × (length (now swap) ≡ 16384) × (128 ≤ length (now out)) ⌝ }
-    ensures { λ r. ⌜ Written (now (out .exit)) r (consoleText (now (input .entry))) ⌝ }
+    ensures { λ r. ⌜ ConsolePromise (now (input .entry)) (memory (now (main .entry)) (now (swap .entry))) (now (out .entry))
+        r (now (out .exit)) (memory (now (main .exit)) (now (swap .exit))) ⌝ }
 {
     if input.len() > 17436 {
         return refuse(Refusal::Room, out);

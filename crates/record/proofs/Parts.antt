@@ -1,14 +1,14 @@
--- Laws of parts: words copied one by one to and from their places, pages and their numbers, and the whole record as its four parts.
+-- Laws of parts: words read from their places, pages and their numbers, and the whole record as its four parts.
 use mathlib.Core.Path.{_≡_, refl, sym, ap, _∙_}
 use mathlib.Core.List.{List, [], _++_, append-assoc, append-nil}
 use Prim.Native.Nat.{ℕ, _+_, _-_, _≤_, _<_}
-use native.Mathlib.Numerals.{add-one}
 use native.Mathlib.Omega.{arith}
-use lib.ListN.{length, getD, set, take, drop, length-append, length-take, length-drop, drop-of-length-le, List·getD-map}
-use lib.Seq.{take-length, take-at, drop-at, getD-take, getD-drop, take-append-seam, drop-append-add, getD-append-add, paste, paste-suc}
+use lib.ListN.{length, getD, take, drop, length-append, length-take, length-drop, drop-of-length-le, List·getD-map}
+use lib.Seq.{take-at, drop-at, getD-take, getD-drop, take-append-seam, drop-append-add, getD-append-add}
 use Rattle.model.specs.Pages.{virtual}
 use Rattle.model.specs.declared.VirtualPage.{VirtualPage}
-use Rattle.record.specs.Words.{heldAt, gprAt, dpcAt, recordLength, part, over, pagesOf, numbersOf}
+use Rattle.laws.specs.Over.{over}
+use Rattle.record.specs.Words.{heldAt, gprAt, dpcAt, recordLength, part, pagesOf, numbersOf}
 
 -- ---- a part read out
 pub length-part : (at n : ℕ) (l : List ℕ) → at + n ≤ length l → length (part at n l) ≡ n
@@ -23,14 +23,6 @@ page-at l i = List·getD-map virtual l i 0
 
 pub number-at : (b : List VirtualPage) (i : ℕ) → getD (numbersOf b) i 0 ≡ getD b i (virtual 0) .0
 number-at b i = List·getD-map (λ (p : VirtualPage). p .0) b i (virtual 0)
-
--- ---- a part written
-module _ (l : List ℕ) (at : ℕ) (s : List ℕ) (i : ℕ) where
-  pub over-more : at + i < length l → i < length s → set (paste l at s i) (at + i) (getD s i 0) ≡ paste l at s (i + 1)
-  over-more hl hs = rw add-one (paste-suc l at s i 0 hl hs)
-
-  pub over-done : length s ≡ i → paste l at s i ≡ over at s l
-  over-done e = rw (← e) (ap (λ r. take at l ++ r ++ drop (at + length s) l) (take-length s))
 
 -- ---- the four parts, one behind the other
 over-next : (p r s : List ℕ) (at : ℕ) → length p ≡ at → over at s (p ++ r) ≡ (p ++ s) ++ drop (length s) r

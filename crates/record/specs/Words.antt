@@ -2,7 +2,7 @@
 -- record that words say, and the words of a record.
 use mathlib.Core.Bool.{Bool}
 use mathlib.Core.List.{List, [], _∷_, _++_, map}
-use Prim.Native.Nat.{ℕ, _+_, _-_}
+use Prim.Native.Nat.{ℕ, _-_}
 use lib.Dec.{eqb}
 use lib.ListN.{length, getD, set, take, drop}
 use Rattle.model.specs.Pages.{virtual}
@@ -62,10 +62,6 @@ whole l = eqb (length l) recordLength
 -- the n words from word `at` on
 abbrev pub part : ℕ → ℕ → List ℕ → List ℕ
 part at n l = take n (drop at l)
-
--- the words with others in the place of those from word `at` on
-abbrev pub over : ℕ → List ℕ → List ℕ → List ℕ
-over at s l = take at l ++ s ++ drop (at + length s) l
 
 -- pages by their numbers, and the numbers of pages
 abbrev pub pagesOf : List ℕ → List VirtualPage

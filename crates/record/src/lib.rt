@@ -9,6 +9,7 @@ ghost use mathlib.Core.Path.{_≡_};
 ghost use mathlib.Core.List.{_++_};
 ghost use Prim.Native.Nat.{_+_, _≤_};
 ghost use lib.ListN.{length, set};
+ghost use Rattle.laws.specs.Over.{over};
 ghost use Rattle.record.specs.Words as words;
 
 // The shape numbers, b and hand.
@@ -56,7 +57,7 @@ fn part(from: &[u32], at: usize) -> [u32; 32]
 // Puts `from` in the place of the words from word `at` on.
 fn put(to: &mut [u32], at: usize, from: &[u32])
     requires { ⌜ at + length (now from) ≤ length (now to) ⌝ }
-    ensures { λ _. ⌜ now (to .exit) ≡ words.over at (now (from .entry)) (now (to .entry)) ⌝ }
+    ensures { λ _. ⌜ now (to .exit) ≡ over at (now (from .entry)) (now (to .entry)) ⌝ }
 {
     let mut i = 0;
     while i < from.len() {

@@ -1,6 +1,7 @@
--- What a script's line means, and what the commands that look and disturb do.
-pub mod Digits
-pub mod Fnv
-pub mod Grammar
-pub mod Parts
+-- What a script's line means.
 pub mod Vocabulary
+pub mod Table
+pub mod Parts
+pub mod Grammar
+pub mod Keeping
+pub mod Promises

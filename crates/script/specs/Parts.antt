@@ -4,72 +4,64 @@ use mathlib.Core.Bool.{_&&_}
 use mathlib.Core.List.{List}
 use Prim.Native.Nat.{ℕ, _+_, _-_, _/_, _%_}
 use lib.Dec.{eqb, leb}
-use lib.ListN.{length, getD, drop}
+use lib.ListN.{length, getD}
 use Rattle.model.specs.Choice.{if_then_else_}
-use Rattle.script.specs.Digits.{front, isSpace, isDigit, isHex, decimal}
-use Rattle.script.specs.declared.parts.Part.{Part}
-use Rattle.script.specs.declared.parts.Part.the-variants.{Number, NotNumber}
-use Rattle.script.specs.declared.parts.One.{One}
-use Rattle.script.specs.declared.parts.One.the-variants.{Value, NotOne}
-use Rattle.script.specs.declared.parts.Two.{Two}
-use Rattle.script.specs.declared.parts.Two.the-variants.{Values, NotTwo}
-use Rattle.script.specs.declared.parts.Bytes.{Bytes}
-use Rattle.script.specs.declared.parts.Bytes.the-variants.{Digits, NotBytes}
+use Rattle.text.specs.Reading.{isSpace}
+use Rattle.text.specs.Reading.{numberAt, hexEnd}
+use Rattle.text.specs.declared.reading.Part.{Part}
+use Rattle.text.specs.declared.reading.Part.the-variants.{Number, NotNumber}
+use Rattle.script.specs.declared.table.Row.{Row}
+use Rattle.script.specs.declared.table.Row.the-variants.{Alone, One, Two, Hex, HexWithin}
+use Rattle.script.specs.declared.parts.Numbers.{Numbers}
+use Rattle.script.specs.declared.parts.Parts.{Parts}
+use Rattle.script.specs.declared.parts.Parts.the-variants.{Fit, Unfit}
 
--- a number of these digits, at a place: at most `most`, and of at least one digit
-unfoldable pub numberOf : List ℕ → ℕ → ℕ → Part
-numberOf ds at most =
-    if leb (decimal 0 ds) most && leb 1 (length ds) then Number (decimal 0 ds) (at + length ds) else NotNumber (at + 1)
-
-unfoldable pub numberAt : List ℕ → ℕ → ℕ → Part
-numberAt l at most = numberOf (front isDigit (drop at l)) at most
+abbrev pub fit : ℕ → ℕ → ℕ → Parts
+fit first second hex = Fit (record { first = first; second = second; hex = hex })
 
 -- one space, and a number behind it
 unfoldable pub spacedNumber : List ℕ → ℕ → ℕ → Part
 spacedNumber l at most = if isSpace (getD l at 0) then numberAt l (at + 1) most else NotNumber (at + 1)
 
--- the place behind the hex digits that begin at a place
-unfoldable pub hexEnd : List ℕ → ℕ → ℕ
-hexEnd l at = at + length (front isHex (drop at l))
+-- what comes behind a number, or the column that does not fit
+abbrev pub behind : Part → (ℕ → ℕ → Parts) → Parts
+behind (Number v next) onto = onto v next
+behind (NotNumber column) onto = Unfit column
 
--- ---- one number, and the line's end
-unfoldable pub oneBy : List ℕ → Part → One
-oneBy l (Number v next) = if eqb next (length l) then Value v else NotOne (next + 1)
-oneBy l (NotNumber column) = NotOne column
+-- nothing more: the line's end
+unfoldable pub ended : List ℕ → ℕ → ℕ → ℕ → Parts
+ended l first second end = if eqb end (length l) then fit first second end else Unfit (end + 1)
 
-unfoldable pub oneNumber : List ℕ → ℕ → ℕ → One
-oneNumber l at most = oneBy l (spacedNumber l at most)
+-- ---- one number; two
+unfoldable pub oneNumber : List ℕ → ℕ → ℕ → Parts
+oneNumber l at most = behind (spacedNumber l at most) (λ v next. ended l v 0 next)
 
--- ---- two numbers, and the line's end
-abbrev pub behind : ℕ → One → Two
-behind v (Value w) = Values v w
-behind v (NotOne column) = NotTwo column
-
-unfoldable pub twoBy : List ℕ → ℕ → Part → Two
-twoBy l most (Number v next) = behind v (oneNumber l next most)
-twoBy l most (NotNumber column) = NotTwo column
-
-unfoldable pub twoNumbers : List ℕ → ℕ → ℕ → ℕ → Two
-twoNumbers l at first second = twoBy l second (spacedNumber l at first)
+unfoldable pub twoNumbers : List ℕ → ℕ → ℕ → ℕ → Parts
+twoNumbers l at most second =
+    behind (spacedNumber l at most) (λ first next. behind (spacedNumber l next second) (λ v end. ended l first v end))
 
 -- ---- a number, and HEX to the line's end: pairs of hex digits, possibly none
-unfoldable pub pairs : List ℕ → ℕ → ℕ → ℕ → Bytes
-pairs l v start end = if eqb end (length l) && eqb ((end - start) % 2) 0 then Digits v start end else NotBytes (end + 1)
+unfoldable pub pairs : List ℕ → ℕ → ℕ → ℕ → Parts
+pairs l first start end = if eqb end (length l) && eqb ((end - start) % 2) 0 then fit first 0 start else Unfit (end + 1)
 
-unfoldable pub hexBehind : List ℕ → ℕ → ℕ → Bytes
-hexBehind l v next = if isSpace (getD l next 0) then pairs l v (next + 1) (hexEnd l (next + 1)) else NotBytes (next + 1)
+unfoldable pub hexBehind : List ℕ → ℕ → ℕ → Parts
+hexBehind l first next = if isSpace (getD l next 0) then pairs l first (next + 1) (hexEnd l (next + 1)) else Unfit (next + 1)
 
-unfoldable pub hexBy : List ℕ → Part → Bytes
-hexBy l (Number v next) = hexBehind l v next
-hexBy l (NotNumber column) = NotBytes column
-
-unfoldable pub numberAndHex : List ℕ → ℕ → ℕ → Bytes
-numberAndHex l at most = hexBy l (spacedNumber l at most)
+unfoldable pub numberAndHex : List ℕ → ℕ → ℕ → Parts
+numberAndHex l at most = behind (spacedNumber l at most) (λ v next. hexBehind l v next)
 
 -- the same, where the bytes lie within a buffer of that size from the number on
-abbrev pub fit : ℕ → ℕ → Bytes → Bytes
-fit column size (Digits v start end) = if leb (v + (end - start) / 2) size then Digits v start end else NotBytes column
-fit column size (NotBytes c) = NotBytes c
+abbrev pub fitting : ℕ → ℕ → ℕ → Parts → Parts
+fitting n column size (Fit p) = if leb (p .first + (n - p .hex) / 2) size then Fit p else Unfit column
+fitting n column size (Unfit c) = Unfit c
 
-unfoldable pub bytesWithin : List ℕ → ℕ → ℕ → Bytes
-bytesWithin l at size = fit (at + 2) size (numberAndHex l at size)
+unfoldable pub hexWithin : List ℕ → ℕ → ℕ → Parts
+hexWithin l at size = fitting (length l) (at + 2) size (numberAndHex l at size)
+
+-- ---- as the table says
+unfoldable pub partsOf : List ℕ → ℕ → Row → Parts
+partsOf l at Alone = ended l 0 0 at
+partsOf l at (One most) = oneNumber l at most
+partsOf l at (Two most second) = twoNumbers l at most second
+partsOf l at (Hex most) = numberAndHex l at most
+partsOf l at (HexWithin size) = hexWithin l at size

@@ -1,5 +1,2 @@
--- Laws of the answers and of lengths.
-pub mod Answered
-pub mod Lengths
-pub mod Spaced
-pub mod Viewed
+-- The laws of the loop over a script.
+mod Going

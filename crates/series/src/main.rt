@@ -1,18 +1,19 @@
 // `series IMAGE_FILE MAIN_PAGES`: a script of calls on standard input, done on a machine that the image is loaded into.
-mod calls;
-mod lines;
-mod session;
-mod step;
-
-use script::parts;
-use script::parts::Part;
-ghost use Rattle.io.specs.Counts.{Counts};
-ghost use lib.ListN.{length};
+use session::Standing;
+use session::Stretch;
+use text::reading;
+use text::reading::Part;
+ghost use mathlib.Core.Path.{_≡_};
 ghost use Prim.Native.Nat.{_≤_};
+ghost use lib.ListN.{length};
+ghost use Rattle.io.specs.Counts.{Counts};
+ghost use Rattle.session.specs.Desk.{desk};
+ghost use Rattle.session.specs.Ready.{Lent, Room};
+ghost use Rattle.session.specs.Script.{linesOf, talk};
 
 // A decimal number below 2^32 and nothing behind it.
 fn pages_of(word: &[u8]) -> Part {
-    match parts::number_at(word, 0, 4294967295) {
+    match reading::number_at(word, 0, 4294967295) {
         Part::NotNumber { column } => Part::NotNumber { column: column },
         Part::Number { value, next } => {
             if next != word.len() {
@@ -30,6 +31,27 @@ fn fail(message: &[u8]) {
     io::write_all(2, message);
 }
 
+// Each stretch is written out before the next one is done, to the script's end. What stands then is promised.
+fn go(first: Standing, main: &mut [u8], swap: &mut [u8], script: &[u8], out: &mut [u8]) -> Standing
+    requires { ⌜ Room (now main) (now swap) (now out) × Lent first × (length (now script) ≤ 65536) ⌝ }
+    ensures { λ r. ⌜ desk r (now (main .exit)) (now (swap .exit))
+        ≡ talk 0 (desk first (now (main .entry)) (now (swap .entry))) (linesOf (now (script .entry))) .desk ⌝ }
+{
+    let mut at = Stretch {
+        standing: first,
+        number: 0,
+        place: 0,
+        filled: 0,
+    };
+    while at.place < script.len() {
+        let next = session::speak(at, main, swap, script, out);
+        let filled = next.filled;
+        io::write_all(1, &out[..filled]);
+        at = next;
+    }
+    at.standing
+}
+
 // The script is read whole before anything is written; a byte more than it may have tells that it is too long.
 fn with_file(file: &[u8], pages: u32) {
     let mut script = [0; 65537];
@@ -39,17 +61,19 @@ fn with_file(file: &[u8], pages: u32) {
     }
     let mut main = [0; 262144];
     let mut swap = [0; 327680];
-    let mut spare = [0; 32768];
-    let mut out = [0; 9000];
-    session::session(
-        file,
-        pages,
-        &mut main,
-        &mut swap,
-        &script[..count],
-        &mut spare,
-        &mut out,
-    )
+    let mut out = [0; 65536];
+    let begun = session::begin(file, pages, &mut main, &mut swap, &mut out);
+    let filled = begun.filled;
+    io::write_all(1, &out[..filled]);
+    if begun.goes_on {
+        go(
+            begun.standing,
+            &mut main,
+            &mut swap,
+            &script[..count],
+            &mut out,
+        );
+    }
 }
 
 // The bytes behind the first ones, which are read already: all that are read now.

@@ -1,3 +1,8 @@
 pub mod Appending
 mod Digits
 mod Grouped
+pub mod Fronts
+pub mod Numbers
+pub mod Pairs
+pub mod Words
+pub mod Bounds

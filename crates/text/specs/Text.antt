@@ -1,23 +1,19 @@
--- What it is to put bytes into a buffer from a place on, and to write a whole text; and bytes in hexadecimal.
+-- What it is to put bytes into a buffer from a place on; and bytes in hexadecimal.
 use mathlib.Core.Path.{_≡_}
-use mathlib.Core.List.{List, [], _∷_, _++_}
-use Prim.Native.Nat.{ℕ, _+_, _/_, _%_}
+use mathlib.Core.List.{List, [], _∷_}
+use Prim.Native.Nat.{ℕ, _+_, _/_, _%_, _≤_}
 use lib.Dec.{ltb}
-use lib.ListN.{length, take}
+use lib.ListN.{length}
 use Rattle.model.specs.Choice.{if_then_else_}
 use Rattle.model.specs.Answers.{verdictNumbers, RunNumbers}
 use Rattle.model.specs.declared.Verdict.the-variants.{Granted}
+use Rattle.laws.specs.Over.{over}
 
--- `after` is the buffer once the bytes stand in it from `at` on, and `to` the place behind them
+-- `after` is the buffer with the bytes over it from `at` on, all of them within it, and `to` the place behind them
 pub record Appended (before : List ℕ) (at : ℕ) (after : List ℕ) (to : ℕ) (bytes : List ℕ) : Type 0 where
   pub place : to ≡ at + length bytes
-  pub text : take to after ≡ take at before ++ bytes
-  pub room : length after ≡ length before
-
--- the first n bytes of the buffer are the text
-pub record Written (after : List ℕ) (n : ℕ) (bytes : List ℕ) : Type 0 where
-  pub count : n ≡ length bytes
-  pub text : take n after ≡ bytes
+  pub room : to ≤ length before
+  pub buffer : after ≡ over at bytes before
 
 -- a digit below 16, as its lower-case byte
 abbrev pub hexDigit : ℕ → ℕ

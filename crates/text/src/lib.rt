@@ -1,4 +1,4 @@
-// Words and numbers put into a lent buffer from a place on. Each answers with the place after what it put.
+// Words and numbers put into a lent buffer from a place on, each answering with the place after what it put. `reading` reads them.
 ghost use mathlib.Core.Path.{_≡_};
 ghost use Prim.Native.Nat.{_+_, _*_, _^_, _≤_, _<_};
 ghost use lib.ListN.{length};
@@ -6,6 +6,7 @@ ghost use Rattle.model.specs.Console.{digits};
 ghost use Rattle.text.specs.Text as text;
 
 pub mod lines;
+pub mod reading;
 
 // The bytes as they are.
 pub fn put(out: &mut [u8], at: usize, bytes: &[u8]) -> usize

@@ -28,26 +28,28 @@ fn put_line(out: &mut [u8], at: usize, word: &[u8], n: u32) -> usize
 }
 
 // "the one line `refused` with the number"
-pub fn refused_line(out: &mut [u8], number: u32) -> usize
-    requires { ⌜ 128 ≤ length (now out) ⌝ }
-    ensures { λ r. ⌜ text.Written (now (out .exit)) r (console.refusedLine number) ⌝ }
+pub fn refused_line(out: &mut [u8], at: usize, number: u32) -> usize
+    requires { ⌜ at + 19 ≤ length (now out) ⌝ }
+    ensures { λ r. ⌜ text.Appended (now (out .entry)) at (now (out .exit)) r (console.refusedLine number) × (r ≤ at + 19) ⌝ }
 {
-    put_line(out, 0, b"refused", number)
+    put_line(out, at, b"refused", number)
 }
 
 // "`stop` with number and detail, `finished`, `loads`, `dpc`"
 pub fn four_lines(
     out: &mut [u8],
+    at: usize,
     stop: u32,
     detail: u32,
     finished: u32,
     loads: u32,
     dpc: u32,
 ) -> usize
-    requires { ⌜ 128 ≤ length (now out) ⌝ }
-    ensures { λ r. ⌜ text.Written (now (out .exit)) r (console.fourLines (text.numbersOf stop detail finished loads) dpc) ⌝ }
+    requires { ⌜ at + 79 ≤ length (now out) ⌝ }
+    ensures { λ r. ⌜ text.Appended (now (out .entry)) at (now (out .exit)) r (console.fourLines (text.numbersOf stop detail finished loads) dpc)
+        × (r ≤ at + 79) ⌝ }
 {
-    let first = put(out, 0, b"stop");
+    let first = put(out, at, b"stop");
     let second = put_spaced(out, first, stop);
     let third = put_line(out, second, b"", detail);
     let fourth = put_line(out, third, b"finished", finished);

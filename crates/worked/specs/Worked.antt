@@ -1,5 +1,5 @@
 -- The worked values that document 01 marks with *, as one table and one statement about the definitions, with pages of 4096 bytes
--- and the real run. The checker computes it.
+-- and the real run; with them its small image, and a machine whose shape a host chose. The checker computes it.
 use mathlib.Core.Bool.{Bool, true, false, _&&_}
 use mathlib.Core.List.{List, [], _∷_, _++_}
 use Prim.Native.Nat.{ℕ, _+_, _-_, _*_, _%_, _^_}
@@ -10,7 +10,7 @@ use Rattle.model.specs.Words.{minus, compared}
 use Rattle.model.specs.Bytes.{number, store, page, withPage}
 use Rattle.model.specs.Table.{entry, withEntry}
 use Rattle.model.specs.Frames.{advanced, among, resident, emptyBook, pageIn}
-use Rattle.model.specs.State.{State}
+use Rattle.model.specs.State.{State, memory}
 use Rattle.model.specs.Sound.{fits, sound}
 use Rattle.model.specs.Translate.{translate}
 use Rattle.model.specs.Instruction.{plan, register, immediate}
@@ -18,6 +18,8 @@ use Rattle.model.specs.Attempt.{transfer, obeyLoad, obeyStore, obey, attempt}
 use Rattle.model.specs.Handler.{out, into, loaded, load}
 use Rattle.model.specs.Run.{follow, run, attempts, instruction}
 use Rattle.model.specs.Calls.{machineVerdict, runVerdict, RunOutcome, runCall}
+use Rattle.model.specs.Image.{trailer, rightsOf, pagesOf, known, wellFormed, imageVerdict, room, loadVerdict, invalidEntries, fresh, loadCall}
+use Rattle.model.specs.Console.{digits, consoleVerdict, consoleText}
 use Rattle.model.specs.declared.Shape.{Shape}
 use Rattle.model.specs.declared.Access.{Access}
 use Rattle.model.specs.declared.Access.the-variants.{Illegal, Fault, At}
@@ -42,14 +44,18 @@ words l i (w ∷ ws) = words (store 4 l i w) (i + 4) ws
 abbrev registers : ℕ → ℕ → List ℕ
 registers x y = 0 ∷ x ∷ y ∷ zeros 29
 
+-- loading's choice of abase, pto and sbase
 abbrev shapeOf : ℕ → ℕ → Shape
 shapeOf a n = record { pages = 1 + a; frames = a; abase = 1; ptl = n; pto = 0; sbase = 0 }
 
--- a fresh machine of a frames with n readable pages in swap
-abbrev machine : ℕ → ℕ → List ℕ → ℕ → ℕ → List ℕ → State
-machine a n gpr dpc next swap = record {
-  machine = record { shape = shapeOf a n; book = emptyBook; gpr = gpr; pcs = record { dpc = dpc; next = next } };
-  memory = record { main = table (replicate n 4) (zeros (4096 * (1 + a) - 4 * n)); swap = swap };
+-- a fresh machine of this shape, with the pages in swap and for each an entry with this low byte (4 readable, 6 writable too)
+abbrev machine : Shape → ℕ → List ℕ → ℕ → ℕ → List ℕ → State
+machine s e gpr dpc next swap = record {
+  machine = record { shape = s; book = emptyBook; gpr = gpr; pcs = record { dpc = dpc; next = next } };
+  memory = record {
+    main = zeros (s .pto) ++ table (replicate (s .ptl) e) (zeros (4096 * s .pages - (s .pto + 4 * s .ptl)));
+    swap = zeros (4096 * s .sbase) ++ swap;
+  };
 }
 
 -- ---- answers as lists of numbers
@@ -81,15 +87,20 @@ booked r = pageIn (r .state .machine .book) 0 .0 ∷ pageIn (r .state .machine .
 abbrev registered : RunOutcome → List ℕ
 registered r = r .state .machine .pcs .dpc ∷ r .state .machine .pcs .next ∷ r .state .machine .gpr
 
--- ---- the two programs
--- lw 1,4096(0) and lw 1,8192(0)
-abbrev two-loads : State
-two-loads = machine 2 3 (registers 0 0) 0 4 (words (zeros 12288) 0 (0x8C011000 ∷ 0x8C012000 ∷ []))
+-- the words of a memory at these places
+abbrev wordsAt : List ℕ → List ℕ → List ℕ
+wordsAt l [] = []
+wordsAt l (i ∷ is) = number 4 l i ∷ wordsAt l is
 
+-- ---- the programs
 -- pages that begin with these words, one after another
 abbrev pages : List (List ℕ) → List ℕ
 pages [] = []
 pages (ws ∷ more) = words (zeros 4096) 0 ws ++ pages more
+
+-- lw 1,4096(0) and lw 1,8192(0)
+abbrev two-loads : State
+two-loads = machine (shapeOf 2 3) 4 (registers 0 0) 0 4 (pages ((0x8C011000 ∷ 0x8C012000 ∷ []) ∷ [] ∷ [] ∷ []))
 
 -- j to k, where PC' is i
 abbrev hop : ℕ → ℕ → ℕ
@@ -98,7 +109,7 @@ hop i k = 2 * 2 ^ 26 + minus k i % 2 ^ 26
 -- A jump in each word: fetched are, one after another, the words at 4096, 8192, 12288, 16384, 4100, 8196, 20480, 4104, 8200,
 -- 12292, 16388, 20484, in the pages 1,2,3,4,1,2,5,1,2,3,4,5.
 abbrev fetches : ℕ → State
-fetches a = machine a 6 (registers 0 0) 4096 8192 (pages (
+fetches a = machine (shapeOf a 6) 4 (registers 0 0) 4096 8192 (pages (
     []
     ∷ (hop 8192 12288 ∷ hop 8196 20480 ∷ hop 8200 12292 ∷ [])
     ∷ (hop 12288 16384 ∷ hop 20480 4104 ∷ hop 12292 16388 ∷ [])
@@ -106,6 +117,21 @@ fetches a = machine a 6 (registers 0 0) 4096 8192 (pages (
     ∷ (hop 4100 8196 ∷ 0 ∷ [])
     ∷ (hop 4104 8200 ∷ 0 ∷ [])
     ∷ []))
+
+-- A shape that a host chose: sbase 3, pto 8, abase 2. sw 1,4096(0) and sw 1,8192(0), with 7 in GPR 1: the load of page 2 puts page 0
+-- out, and the code page that comes again puts page 1 out with the word stored there.
+abbrev two-stores : State
+two-stores = machine (record { pages = 4; frames = 2; abase = 2; ptl = 3; pto = 8; sbase = 3 }) 6 (registers 7 0) 0 4
+    (pages ((0xAC011000 ∷ 0xAC012000 ∷ []) ∷ [] ∷ [] ∷ []))
+
+-- what it comes to: its numbers, its book, the entries of pages 0, 1 and 2 and the word stored in page 2, that stored in page 1
+abbrev moved : RunOutcome → List ℕ
+moved r =
+    counted r ++ booked r ++ wordsAt (r .state .memory .main) (8 ∷ 12 ∷ 16 ∷ 8192 ∷ []) ++ wordsAt (r .state .memory .swap) (16384 ∷ [])
+
+-- "Image of one page, rights 3, start 0, frames 0, the three words above at 0, 4, 8."
+abbrev image : List ℕ
+image = pages ((0x24010007 ∷ 0xAC010040 ∷ 0xF8000005 ∷ []) ∷ []) ++ 3 ∷ words (zeros 24) 0 (25 ∷ 4121 ∷ 1 ∷ 0 ∷ 0 ∷ 1 ∷ [])
 
 -- ---- the table
 infix 5 _is_
@@ -127,7 +153,7 @@ pub worked : T (every (
     ∷ (planned (plan (registers 9 0) 4 0xAC010040) is 3 ∷ 4 ∷ 64 ∷ 9 ∷ [])
     ∷ (planned (plan (registers 0 0) 4 0xF8000005) is 4 ∷ 5 ∷ [])
     -- 0 changes only DPC and PC'
-    ∷ (registered (runCall (machine 2 1 (registers 7 8) 0 4 (zeros 4096)) 1) is 4 ∷ 8 ∷ 0 ∷ 7 ∷ 8 ∷ zeros 29)
+    ∷ (registered (runCall (machine (shapeOf 2 1) 4 (registers 7 8) 0 4 (zeros 4096)) 1) is 4 ∷ 8 ∷ 0 ∷ 7 ∷ 8 ∷ zeros 29)
     -- ptl 2: va 8191 is in the table (and faults), 8192 is illegal, whatever stands behind the table
     ∷ (accessed (translate (shapeOf 2 2) (table (4 ∷ 4 ∷ 4 ∷ []) (zeros 12276)) false 8191) is 1 ∷ [])
     ∷ (accessed (translate (shapeOf 2 2) (table (4 ∷ 4 ∷ 4 ∷ []) (zeros 12276)) false 8192) is 0 ∷ [])
@@ -144,9 +170,19 @@ pub worked : T (every (
     -- fetches alone: 9 loads with 3 frames, 10 with 4
     ∷ (counted (runCall (fetches 3) 12) is 0 ∷ 0 ∷ 0 ∷ 12 ∷ 9 ∷ [])
     ∷ (counted (runCall (fetches 4) 12) is 0 ∷ 0 ∷ 0 ∷ 12 ∷ 10 ∷ [])
+    -- the host's shape: page 0 in main page 3, page 2 in main page 2, page 1 in swap page 3 + 1
+    ∷ (moved (runCall two-stores 2) is 0 ∷ 0 ∷ 0 ∷ 2 ∷ 4 ∷ 2 ∷ 0 ∷ 0 ∷ (4096 * 3 + 7) ∷ 6 ∷ (4096 * 2 + 7) ∷ 7 ∷ 7 ∷ [])
+    -- the small image is taken, and the program prints: stop 1 5, finished 3, loads 1, dpc 12
+    ∷ (loadCall image (memory (zeros 20480) (zeros 4096)) .verdict .refused ∷ [] is 0 ∷ [])
+    ∷ (consoleText image is
+    115 ∷ 116 ∷ 111 ∷ 112 ∷ 32 ∷ 49 ∷ 32 ∷ 53 ∷ 10
+    ∷ 102 ∷ 105 ∷ 110 ∷ 105 ∷ 115 ∷ 104 ∷ 101 ∷ 100 ∷ 32 ∷ 51 ∷ 10
+    ∷ 108 ∷ 111 ∷ 97 ∷ 100 ∷ 115 ∷ 32 ∷ 49 ∷ 10
+    ∷ 100 ∷ 112 ∷ 99 ∷ 32 ∷ 49 ∷ 50 ∷ 10 ∷ [])
     ∷ []
     ))
 unfolding
     passes everyBelow listBelow compared number store page withPage entry withEntry advanced among resident fits sound translate plan register immediate
     transfer obeyLoad obeyStore obey attempt out into loaded load follow run attempts instruction machineVerdict runVerdict runCall
+    trailer rightsOf pagesOf known wellFormed imageVerdict room loadVerdict invalidEntries fresh loadCall digits consoleVerdict consoleText
 worked = tt

@@ -12,7 +12,7 @@ returns : tie.Need-returns
 returns c = grows _ _ _ _ (c .before .before .before .frame .ensures) (c .before .if1 .taken)
 
 returns-2 : tie.Need-returns-2
-returns-2 c = turns _ _ _ _ (c .before .before .frame .ensures) (search needs)
+returns-2 c = turns _ _ _ _ (c .before .before .frame .ensures) (search needs) _ (omega arith)
 
 pub advanced-spec : {M : Type 1} → statement M
 advanced-spec =

@@ -12,12 +12,12 @@ returns-2 c = view-narrow _ _ _ _ _ (search needs) (search needs)
 
 returns-3 : tie.Need-returns-3
 returns-3 c =
-    view-refused _ _ _ _ _ (search needs) (search needs) _ (c .before .before .before .before .machine-of .ensures) _ (c .before .before .before .page-view .ensures)
+    view-refused _ _ _ _ _ (search needs) (search needs) _ (c .before .before .before .before .machine-of .ensures) _ (c .before .before .before .page-view .ensures .bytes)
     (search needs) (c .before .view-answer .result) (c .before .view-answer .ensures) _ (c .verdict-number .ensures)
 
 returns-4 : tie.Need-returns-4
 returns-4 c =
-    view-done _ _ _ _ _ (search needs) (search needs) _ (c .before .before .before .before .before .before .machine-of .ensures) _ (c .before .before .before .before .before .page-view .ensures)
+    view-done _ _ _ _ _ (search needs) (search needs) _ (c .before .before .before .before .before .before .machine-of .ensures) _ (c .before .before .before .before .before .page-view .ensures .bytes)
     (search needs) _ (c .before .before .copy-page .ensures)
 
 pub brenwythal-view-spec : {M : Type 1} → statement M

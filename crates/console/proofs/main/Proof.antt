@@ -5,10 +5,10 @@ use Rattle.console.proofs.main.Statement.{statement}
 use Rattle.console.proofs.main.Tie as tie
 
 array-share-prefix-out : tie.Need-array-share-prefix-out
-array-share-prefix-out c = within (c .before .before .before .console .ensures)
+array-share-prefix-out c = within (c .before .before .before .console .ensures .0)
 
 slice-aggregate-write-all : tie.Need-slice-aggregate-write-all
-slice-aggregate-write-all c = counted (c .before .before .before .before .console .ensures)
+slice-aggregate-write-all c = counted (c .before .before .before .before .console .ensures .0)
 
 pub main-spec : {M : Type 1} → statement M
 main-spec =

@@ -83,7 +83,7 @@ loop-again-2 c =
     let inv = leg .before .before .before .before .before .before .loop .inv in (
       leg-few _ _ _ _ _ _ _ _ (inv .0) (inv .1) _ _ _ (leg .walk .ensures),
       leg-again _ _ _ _ _ _ _ _ (inv .0) (inv .1) _ _ _ (leg .walk .ensures) _ (missed .o .given .1) _ (page .page-of .ensures) _ _ _
-          (c .before .before .before .before .load .ensures),
+          (c .before .before .before .before .load .ensures) _ _ (omega arith) (omega arith) _ (omega arith),
     )
 
 same-length-3 : tie.Need-same-length-3 Inv-loop μ-loop

@@ -31,7 +31,7 @@ fill-main-requires c κs =
     let read = told .before .before in
     let a = read .before .before .before .before .args in
     table-fits (a .file .now) (a .main .now) (a .swap .now) _ _ _ (sym (ap imageNumbers (told .ptl .given .1)) ∙ read .read .ensures)
-    _ (k .room .ensures) (c .before .before .before .if1 .left) _ (c .before .rights .ensures .0)
+    _ (k .room .ensures) (c .before .before .before .if1 .left) _ (c .before .rights .ensures .bytes)
 
 fill-swap-requires : tie.Need-fill-swap-requires
 fill-swap-requires c κs =
@@ -42,7 +42,7 @@ fill-swap-requires c κs =
     let read = told .before .before in
     let a = read .before .before .before .before .args in
     pages-fit (a .file .now) (a .main .now) (a .swap .now) _ _ _ (sym (ap imageNumbers (told .ptl .given .1)) ∙ read .read .ensures)
-    _ (k .room .ensures) (test .if1 .left) _ (c .before .pages .ensures .0)
+    _ (k .room .ensures) (test .if1 .left) _ (c .before .pages .ensures .bytes)
 
 returns-2 : tie.Need-returns-2
 returns-2 c =
@@ -62,8 +62,8 @@ returns-3 c =
     let read = told .before .before in
     let a = read .before .before .before .before .args in
     loaded (a .file .now) (a .main .now) (a .swap .now) _ _ _ (sym (ap imageNumbers (told .ptl .given .1)) ∙ read .read .ensures)
-    _ (k .room .ensures) (made .before .if1 .left) _ (made .machine .ensures) _ _ _ _ (filled .before .before .rights .ensures .0)
-    (cut .pages .ensures .0) (filled .fill-main .ensures) (c .before .before .fill-swap .ensures)
+    _ (k .room .ensures) (made .before .if1 .left) _ (made .machine .ensures) _ _ _ _ (filled .before .before .rights .ensures .bytes)
+    (cut .pages .ensures .bytes) (filled .fill-main .ensures) (c .before .before .fill-swap .ensures)
 
 pub load-spec : {M : Type 1} → statement M
 load-spec =

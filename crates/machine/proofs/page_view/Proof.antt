@@ -1,5 +1,7 @@
 -- `page_view`: an empty part, or the page.
+use mathlib.Core.Path.{refl}
 use borrow.Author.Needs.{needs}
+use Rattle.laws.proofs.Parts.{cut-none}
 use Rattle.model.specs.State.{state}
 use Rattle.machine.proofs.Outcomes.{view-refused, view-done}
 use Rattle.host.proofs.Leans.{view-leans}
@@ -16,10 +18,12 @@ page-part-requires c κs =
     (asked .view-verdict .ensures) (c .enum-told2 .given .1)
 
 returns : tie.Need-returns
-returns c = view-refused _ _ _ (c .before .before .before .view-verdict .ensures) _ (c .before .enum-told .given .1)
+returns c =
+    view-refused _ _ _ _ _ (c .before .before .before .view-verdict .ensures) _ (c .before .enum-told .given .1) _
+    (cut-none _ _ _ refl refl (search needs) refl)
 
 returns-2 : tie.Need-returns-2
-returns-2 c = view-done _ _ _ (c .before .before .before .view-verdict .ensures) (c .before .enum-told2 .given .1) _ (c .page-part .ensures)
+returns-2 c = view-done _ _ _ _ _ (c .before .before .before .view-verdict .ensures) (c .before .enum-told2 .given .1) _ (c .page-part .ensures)
 
 pub page-view-spec : {M : Type 1} → statement M
 page-view-spec =

@@ -13,7 +13,10 @@ returns : tie.Need-returns
 returns c = reply-refused _ _ _ _ (c .before .before .before .reply-verdict .ensures) _ (c .before .r .given .1)
 
 returns-2 : tie.Need-returns-2
-returns-2 c = reply-done _ _ _ _ (c .before .before .reply-verdict .ensures) (c .enum-told .given .1)
+returns-2 c =
+    let granted = c .enum-told .given .1 in
+    let asked = c .before .before .reply-verdict .ensures in
+    reply-done _ _ _ _ asked granted _ (omega (arith, reply-leans _ _ asked granted))
 
 pub reply-spec : {M : Type 1} → statement M
 reply-spec =

@@ -1,6 +1,7 @@
 -- `load_and_run`: the two answers of loading.
-use Rattle.text.proofs.Appending.{said}
-use Rattle.program.proofs.Printed.{load-refused, load-granted}
+use mathlib.Core.Path.{_∙_}
+use Rattle.text.proofs.Appending.{same}
+use Rattle.program.proofs.Printed.{load-refused, refused-left, load-granted, granted-left}
 use borrow.Author.Needs.{needs}
 use Rattle.program.proofs.load_and_run.Statement.{statement}
 use Rattle.program.proofs.load_and_run.Tie as tie
@@ -10,14 +11,18 @@ returns c =
     let printed = c .before .before in
     let answer = printed .before .before .before in
     let called = answer .before .before .before .before .before .before .before in
-    said (printed .refuse .ensures) (load-refused _ _ _ (called .load .ensures) _ (answer .verdict .given .1))
+    let e = answer .verdict .given .1 in
+    (same (printed .refuse .ensures) (load-refused _ _ _ (called .load .ensures) _ e), refused-left _ _ _ (called .load .ensures) _ e)
 
 returns-2 : tie.Need-returns-2
 returns-2 c =
     let ran = c .before .before .before .before .before .before in
     let answer = ran .before .before .before .before .before in
     let called = answer .before .before .before .before .before .before in
-    said (ran .run-and-print .ensures) (load-granted _ _ _ (called .load .ensures) (ran .before .before .before .before .enum-told .given .1))
+    let e = ran .before .before .before .before .enum-told .given .1 in (
+      same (ran .run-and-print .ensures .0) (load-granted _ _ _ (called .load .ensures) e),
+      ran .run-and-print .ensures .1 ∙ granted-left _ _ _ (called .load .ensures) e,
+    )
 
 pub load-and-run-spec : {M : Type 1} → statement M
 load-and-run-spec =

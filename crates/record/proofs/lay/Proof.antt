@@ -1,6 +1,7 @@
 -- `lay`: each part behind the one before it.
 use mathlib.Core.Path.{ap, _∙_}
-use Rattle.record.specs.Words.{heldAt, gprAt, dpcAt, over}
+use Rattle.laws.specs.Over.{over}
+use Rattle.record.specs.Words.{heldAt, gprAt, dpcAt}
 use Rattle.record.proofs.Parts.{laid}
 use borrow.Author.Needs.{needs}
 use Rattle.record.proofs.lay.Statement.{statement}

@@ -1,25 +1,46 @@
 -- `with_file`: the buffers have their lengths, and the script is short enough.
+use mathlib.Core.Path.{sym, _∙_}
+use Prim.Native.Nat.{ℕ}
 use native.Mathlib.Omega.{arith}
+use lib.ListN.{length-replicate}
+use lib.Seq.{length-take-le}
+use Rattle.text.proofs.Appending.{within, length-appended}
 use borrow.Author.Needs.{needs}
 use Rattle.series.proofs.with_file.Statement.{statement}
 use Rattle.series.proofs.with_file.Tie as tie
 
-session-requires : tie.Need-session-requires
-session-requires c κs = (
-  record { main-long = search needs; swap-long = search needs; out-long = search needs },
-  search needs,
-  omega (
-    arith,
-    c
-        .before .before .before .before .before .before .before .read-full .ensures .1,
-    c .before .before .before .before .before
-        .if1 .left,
-  ),
-)
+begin-requires : tie.Need-begin-requires
+begin-requires c κs =
+    record {
+      main-long = length-replicate {A = ℕ} 262144 0;
+      swap-long = length-replicate {A = ℕ} 327680 0;
+      out-long = omega (arith, length-replicate {A = ℕ} 65536 0);
+    }
+
+array-share-prefix-out : tie.Need-array-share-prefix-out
+array-share-prefix-out c =
+    let r = c .before .before .before .begin in omega (arith, within (r .ensures .0 .text), length-appended (r .ensures .0 .text), length-replicate {A = ℕ} 65536 0)
+
+slice-aggregate-write-all : tie.Need-slice-aggregate-write-all
+slice-aggregate-write-all c =
+    let r = c .before .before .before .before .begin in sym (length-take-le (r .result .filled) _ (within (r .ensures .0 .text)))
+
+go-requires : tie.Need-go-requires
+go-requires c κs =
+    let r = c .before .before .before .before .before .before .before .before .before .before .begin in (
+      record {
+        main-long = r .kept .1 .1 .0 ∙ length-replicate {A = ℕ} 262144 0;
+        swap-long = r .kept .1 .1 .1 .0 ∙ length-replicate {A = ℕ} 327680 0;
+        out-long = omega (arith, length-appended (r .ensures .0 .text), length-replicate {A = ℕ} 65536 0);
+      },
+      r .ensures .1,
+      omega (arith, c .before .before .before .before .before .before .before .before .before .before .before .before .before .before .before .before .read-full .ensures .1, c .before .before .before .before .before .before .before .before .before .before .before .before .before .before .if1 .left),
+    )
 
 pub with-file-spec : {M : Type 1} → statement M
 with-file-spec =
     tie.close
     (tie.spec (λ c. search needs) (λ c κs. search needs) (λ c. search needs) (λ c κs. search needs) (λ c. search needs)
-    (λ c. search needs) (λ c. search needs) (λ c. search needs) (λ c. search needs) (λ c. search needs) (λ c. search needs)
-    session-requires (λ c. search needs))
+    (λ c. search needs) (λ c. search needs) (λ c. search needs) begin-requires array-share-prefix-out
+    slice-aggregate-write-all (λ c κs. search needs) (λ c. search needs) (λ c. search needs) (λ c. search needs)
+    (λ c. search needs) (λ c. search needs) go-requires (λ c. search needs) (λ c. search needs))

@@ -4,7 +4,7 @@ use native.Mathlib.Omega.{arith}
 use lib.ListN.{length-set}
 use borrow.Fn.Kinds.{In}
 use borrow.Fn.PlainCycle.{Measures, is, falls, and}
-use Rattle.text.proofs.Appending.{byte}
+use Rattle.text.proofs.Appending.{byte, length-appended}
 use Rattle.text.proofs.Digits.{digits-one, more-digits, fewer-digits, length-digits, last-digit}
 use Rattle.text.proofs.put_digits.Reads as put-digits
 use Rattle.text.proofs.put_digits.Kinds as put-digits-kinds
@@ -69,7 +69,7 @@ add-result-2 : (t : ℕ) → put-digits-lts.Need-add-result-2 (below t, put-digi
 add-result-2 t c = omega (arith, slice-write-out-2 t c)
 
 same-length-2 : (t : ℕ) → put-digits-lts.Need-same-length-2 (below t, put-digits.Post) (given t) put-digits.Post
-same-length-2 t c = simp length-set (c .before .before .put-digits .ensures .room)
+same-length-2 t c = simp length-set (length-appended (c .before .before .put-digits .ensures))
 
 returns-2 : (t : ℕ) → put-digits-lts.Need-returns-2 (below t, put-digits.Post) (given t) put-digits.Post
 returns-2 t c =

@@ -5,7 +5,7 @@ use native.Mathlib.Omega.{arith}
 use lib.ListN.{length, take, length-set}
 use lib.Seq.{take-all}
 use Rattle.text.specs.Text.{Appended, hexOf}
-use Rattle.text.proofs.Appending.{nothing, same}
+use Rattle.text.proofs.Appending.{nothing, same, length-appended}
 use Rattle.text.proofs.Digits.{hex-step}
 use Rattle.text.proofs.put_hex.Statement.{statement}
 use Rattle.text.proofs.put_hex.Tie as tie
@@ -18,7 +18,7 @@ abbrev μ-loop : tie.MeasureT-loop
 
 loop-holds : tie.Need-loop-holds Inv-loop μ-loop
 unfolding hexOf
-loop-holds c = (omega arith, omega arith, nothing (c .before .before .args .out .now) (c .before .before .args .at))
+loop-holds c = (omega arith, omega arith, nothing (c .before .before .args .out .now) (c .before .before .args .at) (omega arith))
 
 shared-slice-read-hex-digit : tie.Need-shared-slice-read-hex-digit Inv-loop μ-loop
 shared-slice-read-hex-digit c = omega arith
@@ -27,7 +27,7 @@ hex-digit-requires : tie.Need-hex-digit-requires Inv-loop μ-loop
 hex-digit-requires c κs = omega (arith, c .shared-slice-known2 .given (c .before .before .loop .i))
 
 slice-write-out : tie.Need-slice-write-out Inv-loop μ-loop
-slice-write-out c = omega arith
+slice-write-out c = omega (arith, length-appended)
 
 shared-slice-read-hex-digit-2 : tie.Need-shared-slice-read-hex-digit-2 Inv-loop μ-loop
 shared-slice-read-hex-digit-2 c = omega arith
@@ -39,7 +39,7 @@ add-out : tie.Need-add-out Inv-loop μ-loop
 add-out c = omega arith
 
 slice-write-out-2 : tie.Need-slice-write-out-2 Inv-loop μ-loop
-slice-write-out-2 c = simp length-set (omega arith)
+slice-write-out-2 c = simp length-set (omega (arith, length-appended))
 
 add-to : tie.Need-add-to Inv-loop μ-loop
 add-to c = omega arith
@@ -57,11 +57,11 @@ loop-again c =
     let a = turn .before .before .before .args in (
       omega arith,
       omega arith,
-      hex-step (a .bytes .now) (v .i) _ _ (omega arith) (omega arith) (c .before .before .hex-digit .ensures) (c .hex-digit2 .ensures) (v .inv .2),
+      hex-step (a .bytes .now) (v .i) _ _ (omega arith) (omega (arith, length-appended)) (c .before .before .hex-digit .ensures) (c .hex-digit2 .ensures) (v .inv .2),
     )
 
 same-length : tie.Need-same-length Inv-loop μ-loop
-same-length c = c .before .loop .inv .2 .room
+same-length c = length-appended (c .before .loop .inv .2)
 
 returns : tie.Need-returns Inv-loop μ-loop
 returns c =

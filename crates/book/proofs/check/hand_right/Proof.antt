@@ -8,7 +8,7 @@ returns : tie.Need-returns
 returns c = hand-free _ (c .before .before .before .args .b) (search needs)
 
 returns-2 : tie.Need-returns-2
-returns-2 c = hand-full _ (c .before .before .before .args .b) (search needs)
+returns-2 c = let a = c .before .before .before .args in hand-full (a .a) (a .b) (search needs)
 
 pub hand-right-spec : {M : Type 1} → statement M
 hand-right-spec =

@@ -1,8 +1,9 @@
 -- `check::held_in_table`: the first i pages are below ptl.
 use mathlib.Core.Path.{_≡_}
 use mathlib.Core.Bool.{true}
-use Prim.Native.Nat.{_≤_, _-_}
+use Prim.Native.Nat.{_≤_, _<_, _-_}
 use lib.Dec.{ltb}
+use native.Mathlib.Omega.{arith}
 use borrow.Author.Tests.{lt-ltb, le-ltb}
 use Rattle.model.specs.Choice.{everyBelow}
 use Rattle.model.specs.Frames.{pageIn}
@@ -22,11 +23,18 @@ loop-holds c = (search needs, none-yet _)
 
 returns : tie.Need-returns Inv-loop μ-loop
 returns c =
-    let a = c .before .before .before .before .before .args in
-    fails _ (λ k. ltb (pageIn (a .t2) k .0) (a .ptl)) _ (search needs) (le-ltb _ _ (c .if1 .taken))
+    let turn = c .before .before .before .before in
+    let a = turn .before .args in
+    let i = turn .loop .i in
+    let beyond : a .ptl ≤ pageIn (a .t2) i .0 = omega arith in
+    fails _ (λ k. ltb (pageIn (a .t2) k .0) (a .ptl)) i (search needs) (le-ltb _ _ beyond)
 
 loop-again : tie.Need-loop-again Inv-loop μ-loop
-loop-again c = (search needs, one-more _ _ (c .before .before .before .before .loop .inv .1) (lt-ltb _ _ (c .if1 .left)))
+loop-again c =
+    let turn = c .before .before .before .before in
+    let a = turn .before .args in
+    let within : pageIn (a .t2) (turn .loop .i) .0 < a .ptl = omega arith in
+    (search needs, one-more _ _ (turn .loop .inv .1) (lt-ltb _ _ within))
 
 returns-2 : tie.Need-returns-2 Inv-loop μ-loop
 returns-2 c = all-passed _ _ _ (c .before .loop .inv .1) (search needs) (search needs)

@@ -1,10 +1,18 @@
 -- `less` is the signed order.
+use mathlib.Core.Path.{_≡_}
+use Prim.Native.Nat.{_^_}
+use native.Mathlib.Omega.{arith}
+use Rattle.model.specs.Words.{plus}
 use borrow.Author.Needs.{needs}
 use Rattle.dlx.proofs.alu.less.Statement.{statement}
 use Rattle.dlx.proofs.alu.less.Tie as tie
 
 returns : tie.Need-returns
-returns c = simp (c .before .wrapping-add-u32 .ensures, c .wrapping-add-u322 .ensures)
+returns c =
+    let a = c .before .before .args in
+    let x : c .before .wrapping-add-u32 .result ≡ plus (a .x) (2 ^ 31) = omega (arith, c .before .wrapping-add-u32 .ensures) in
+    let y : c .wrapping-add-u322 .result ≡ plus (a .y) (2 ^ 31) = omega (arith, c .wrapping-add-u322 .ensures) in
+    simp (x, y)
 
 pub less-spec : {M : Type 1} → statement M
 less-spec =

@@ -14,13 +14,13 @@ returns-2 c =
     let near = c .before .before .before in
     let k = near .before .before .before in
     rights-wrong _ (k .args .t) (k .pre) _ (near .before .distances-right .ensures) (near .if1 .left)
-    _ (c .before .before .rights-of .ensures .0) _ (c .before .rights-right .ensures) (c .if2 .taken)
+    _ (c .before .before .rights-of .ensures .bytes) _ (c .before .rights-right .ensures) (c .if2 .taken)
 
 returns-3 : tie.Need-returns-3
 returns-3 c =
     let near = c .before .before .before .before in
     let k = near .before .before .before in
-    the-rest _ (k .args .t) (k .pre) _ (near .before .distances-right .ensures) (near .if1 .left) _ (c .before .before .before .rights-of .ensures .0)
+    the-rest _ (k .args .t) (k .pre) _ (near .before .distances-right .ensures) (near .if1 .left) _ (c .before .before .before .rights-of .ensures .bytes)
     _ (c .before .before .rights-right .ensures) (c .before .if2 .left) _ (c .start-and-frames-right .ensures)
 
 pub well-formed-spec : {M : Type 1} → statement M

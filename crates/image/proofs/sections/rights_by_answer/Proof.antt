@@ -1,15 +1,16 @@
 -- `sections::rights_by_answer`: the section of an accepted image, or an empty part.
-use mathlib.Core.Path.{refl, sym, ap, _∙_}
+use mathlib.Core.Path.{refl, sym, ap}
 use borrow.Author.Needs.{needs}
+use Rattle.laws.proofs.Parts.{cut-none}
 use Rattle.image.specs.Sections.{rightsByAnswer}
 use Rattle.image.proofs.sections.rights_by_answer.Statement.{statement}
 use Rattle.image.proofs.sections.rights_by_answer.Tie as tie
 
 returns : tie.Need-returns
-returns c = (c .rights-of .ensures .0 ∙ sym (ap (rightsByAnswer _) (c .before .before .answer .given .1)), c .rights-of .ensures .1)
+returns c = rw (c .before .before .answer .given .1) (c .rights-of .ensures)
 
 returns-2 : tie.Need-returns-2
-returns-2 c = (sym (ap (rightsByAnswer _) (c .before .enum-told .given .1)), record { block = refl; low = search needs; high = search needs })
+returns-2 c = cut-none _ _ _ refl (sym (ap (rightsByAnswer _) (c .before .enum-told .given .1))) (search needs) refl
 
 pub rights-by-answer-spec : {M : Type 1} → statement M
 rights-by-answer-spec =

@@ -1,8 +1,8 @@
--- `parts::hex_behind`: no space, a byte that is no hex digit, a digit without its pair, or pairs to the line's end.
+-- `hex_behind`: no space, a byte that is no hex digit, a digit without its pair, or pairs to the line's end.
 use mathlib.Core.Path.{sym, _∙_}
 use native.Mathlib.Omega.{arith}
 use borrow.Author.Tests.{not-true, not-false}
-use Rattle.script.proofs.Bounds.{space-inside}
+use Rattle.text.proofs.Bounds.{space-inside}
 use Rattle.script.proofs.Ways.{hex-no-space, hex-stops, hex-odd, hex-even}
 use borrow.Author.Needs.{needs}
 use Rattle.script.proofs.parts.hex_behind.Statement.{statement}
@@ -30,13 +30,12 @@ returns-3 c =
 
 returns-4 : tie.Need-returns-4
 returns-4 c =
-    let e = c .before .before in
-    hex-even _ _ _ (sym (e .before .before .space-at .ensures) ∙ not-false _ (e .before .if1 .left)) _ (e .hex-end .ensures .0)
+    let e = c .before .before .before in
+    c .fit .ensures
+    ∙ hex-even _ _ _ (sym (e .before .before .space-at .ensures) ∙ not-false _ (e .before .if1 .left)) _ (e .hex-end .ensures .0)
     (search needs) (search needs)
 
 pub hex-behind-spec : {M : Type 1} → statement M
 hex-behind-spec =
     tie.close
-    (tie.spec (λ c κs. search needs) (λ c. search needs) returns (λ c. search needs) hex-end-requires (λ c. search needs)
-    returns-2
-    (λ c. search needs) (λ c. search needs) returns-3 returns-4)
+    (tie.spec (λ c κs. search needs) (λ c. search needs) returns (λ c. search needs) hex-end-requires (λ c. search needs) returns-2 (λ c. search needs) (λ c. search needs) returns-3 (λ c κs. search needs) returns-4)

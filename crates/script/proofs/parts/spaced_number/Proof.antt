@@ -1,8 +1,8 @@
--- `parts::spaced_number`: no space, or a number behind it.
+-- `spaced_number`: no space, or a number behind it.
 use mathlib.Core.Path.{sym, _∙_}
 use native.Mathlib.Omega.{arith}
 use borrow.Author.Tests.{not-true, not-false}
-use Rattle.script.proofs.Bounds.{space-inside}
+use Rattle.text.proofs.Bounds.{space-inside}
 use Rattle.script.proofs.Ways.{no-space, space-first}
 use borrow.Author.Needs.{needs}
 use Rattle.script.proofs.parts.spaced_number.Statement.{statement}

@@ -1,0 +1,55 @@
+-- A line says what its call answered: the numbers of a refusal, or what the call reports.
+use mathlib.Core.Path.{_≡_, refl, sym, ap, _∙_}
+use mathlib.Core.List.{List, [], _∷_}
+use Prim.Native.Nat.{ℕ}
+use Rattle.model.specs.State.{State}
+use Rattle.model.specs.Answers.{refusalNumber, VerdictNumbers, verdictNumbers, stopNumber, stopDetail, runNumbers}
+use Rattle.model.specs.Console.{refusedLine, orRefused}
+use Rattle.model.specs.Calls.{RunOutcome, runOutcome}
+use Rattle.model.specs.declared.Stop.{Stop}
+use Rattle.model.specs.declared.Refusal.{Refusal}
+use Rattle.model.specs.declared.Refusal.the-variants.{Bound, Unsound, Rights, TooMuch, Edition, Format, Room}
+use Rattle.model.specs.declared.Verdict.{Verdict}
+use Rattle.model.specs.declared.Verdict.the-variants.{Granted, Refused}
+use Rattle.model.specs.declared.RunAnswer.{RunAnswer}
+use Rattle.model.specs.declared.RunAnswer.the-variants.{Ran, NotRun}
+use Rattle.script.specs.Vocabulary.{runWord}
+use Rattle.session.specs.Lines.{numbersLine}
+use Rattle.session.specs.Answers.{runText, Answer, Says}
+
+refused-text : (r : Refusal) (line : List ℕ) → refusedLine (refusalNumber r) ≡ orRefused (verdictNumbers (Refused r)) line
+refused-text Bound line = refl
+refused-text Unsound line = refl
+refused-text Rights line = refl
+refused-text TooMuch line = refl
+refused-text Edition line = refl
+refused-text Format line = refl
+refused-text Room line = refl
+
+-- a verdict v, and the number n that is printed for it
+module _ (v : Verdict) (k : VerdictNumbers) (e : verdictNumbers v ≡ k) (line : List ℕ) where
+  pub verdict-refused : {r : Refusal} {n : ℕ} → v ≡ Refused r → n ≡ refusalNumber r → refusedLine n ≡ orRefused k line
+  verdict-refused {r} {n} g h =
+      ap refusedLine h ∙ refused-text r line ∙ ap (λ (j : VerdictNumbers). orRefused j line) (sym (ap verdictNumbers g) ∙ e)
+
+  pub verdict-granted : v ≡ Granted → line ≡ orRefused k line
+  verdict-granted g = ap (λ (j : VerdictNumbers). orRefused j line) (sym (ap verdictNumbers g) ∙ e)
+
+abbrev pub line : ℕ → ℕ → ℕ → ℕ → List ℕ
+line stop detail finished loads = numbersLine runWord (stop ∷ detail ∷ finished ∷ loads ∷ [])
+
+module _ (a : RunAnswer) (p : State) (o : RunOutcome) (e : runOutcome a p ≡ o) where
+  pub run-refused : {r : Refusal} {n : ℕ} → a ≡ NotRun r → n ≡ refusalNumber r → refusedLine n ≡ runText (o .numbers)
+  run-refused {r} {n} g h =
+      ap refusedLine h ∙ refused-text r (line 0 0 0 0)
+      ∙ ap (λ (b : RunAnswer). runText (runNumbers b)) (sym g) ∙ ap (λ (x : RunOutcome). runText (x .numbers)) e
+
+  pub run-ran : {s : Stop} {f l stop detail : ℕ} → a ≡ Ran s f l → stop ≡ stopNumber s → detail ≡ stopDetail s
+      → line stop detail f l ≡ runText (o .numbers)
+  run-ran {s} {f} {l} {stop} {detail} g h k =
+      ap (λ (n : ℕ). line n detail f l) h ∙ ap (λ (n : ℕ). line (stopNumber s) n f l) k
+      ∙ ap (λ (b : RunAnswer). runText (runNumbers b)) (sym g) ∙ ap (λ (x : RunOutcome). runText (x .numbers)) e
+
+-- the same answer, said otherwise
+pub said-as : {before after : List ℕ} {at to : ℕ} {p : State} {a b : Answer} → Says before at after to p a → a ≡ b → Says before at after to p b
+said-as s e = rw e at s

@@ -1,0 +1,9 @@
+-- The laws of the lines, the calls and the script.
+mod Mixing
+mod Spaced
+mod Viewed
+mod Answered
+mod Asked
+mod Telling
+pub mod Talking
+mod Begun

@@ -1,0 +1,31 @@
+-- Numbers, each behind a space, one after another.
+use mathlib.Core.Path.{_≡_, refl, sym, ap, _∙_}
+use mathlib.Core.List.{List, [], _∷_, _++_, append-assoc, append-nil}
+use Prim.Native.Nat.{ℕ, _+_, _<_}
+use native.Mathlib.Numerals.{add-one}
+use lib.ListN.{length, getD, take}
+use lib.Seq.{take-suc}
+use Rattle.model.specs.Console.{spaced, newline}
+use Rattle.session.specs.Lines.{spacedAll, numbersLine}
+
+pub spaced-append : (a b : List ℕ) → spacedAll (a ++ b) ≡ spacedAll a ++ spacedAll b
+unfolding spacedAll
+spaced-append [] b = refl
+spaced-append (x ∷ a) b = ap (λ (l : List ℕ). spaced x ++ l) (spaced-append a b) ∙ sym (append-assoc (spaced x) (spacedAll a)
+    (spacedAll b))
+
+spaced-one : (x : ℕ) → spacedAll (x ∷ []) ≡ spaced x
+unfolding spacedAll
+spaced-one x = append-nil (spaced x)
+
+pub spaced-next : (l : List ℕ) (i : ℕ) → i < length l → spacedAll (take i l) ++ spaced (getD l i 0) ≡ spacedAll (take (i + 1) l)
+spaced-next l i h =
+    sym (rw (add-one, take-suc l i 0)
+    (spaced-append (take i l) (getD l i 0 ∷ []) ∙ ap (λ (x : List ℕ). spacedAll (take i l) ++ x) (spaced-one (getD l i 0))))
+
+-- two numbers and more of them, in one line
+pub long-grouped : (word : List ℕ) (x y : ℕ) (more : List ℕ)
+    → word ++ (spacedAll (x ∷ y ∷ []) ++ (spacedAll more ++ newline)) ≡ numbersLine word (x ∷ y ∷ more)
+long-grouped word x y more =
+    ap (λ (l : List ℕ). word ++ l) (sym (append-assoc (spacedAll (x ∷ y ∷ [])) (spacedAll more) newline)
+    ∙ ap (λ (l : List ℕ). l ++ newline) (sym (spaced-append (x ∷ y ∷ []) more)))

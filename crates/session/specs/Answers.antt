@@ -1,0 +1,85 @@
+-- What each call of a script leaves, and the line that answers it: its word and what it reports, or `refused N`.
+use mathlib.Core.Path.{_≡_}
+use mathlib.Core.List.{List, [], _∷_, _++_}
+use Prim.Native.Nat.{ℕ}
+use lib.ListN.{replicate}
+use Rattle.model.specs.State.{State}
+use Rattle.model.specs.Pages.{virtual}
+use Rattle.model.specs.Answers.{RunNumbers}
+use Rattle.model.specs.Calls.{RunOutcome, ReadOutcome, StateOutcome, ViewOutcome, ReplyOutcome, runCall, readCall, writeCall, viewCall, replyCall}
+use Rattle.model.specs.Console.{orRefused}
+use Rattle.model.specs.declared.Machine.{Machine}
+use Rattle.model.specs.declared.FrameBook.{FrameBook}
+use Rattle.record.specs.Words.{numbersOf}
+use Rattle.text.specs.Text.{Appended}
+use Rattle.script.specs.Vocabulary.{runWord, readWord, writeWord, viewWord, replyWord, registersWord, framesWord, sumWord}
+use Rattle.script.specs.declared.parts.Numbers.{Numbers}
+use Rattle.script.specs.declared.Call.{Call}
+use Rattle.script.specs.declared.Call.the-variants.{Run, Read, Write, View, Reply, Registers, Frames, Sum}
+use Rattle.session.specs.Fnv.{fnv1a}
+use Rattle.session.specs.Lines.{wordLine, hexLine, numbersLine}
+
+-- ---- the lines
+-- `run STOP DETAIL FINISHED LOADS`
+abbrev pub runText : RunNumbers → List ℕ
+runText r = orRefused (r .verdict) (numbersLine runWord (r .stop ∷ r .detail ∷ r .finished ∷ r .loads ∷ []))
+
+-- `read HEX`, `view HEX`
+abbrev pub readText : ReadOutcome → List ℕ
+readText o = orRefused (o .verdict) (hexLine (readWord ++ (32 ∷ [])) (o .buffer))
+
+abbrev pub viewText : ViewOutcome → List ℕ
+viewText o = orRefused (o .verdict) (hexLine (viewWord ++ (32 ∷ [])) (o .part))
+
+-- `write`, `reply`
+abbrev pub writeText : StateOutcome → List ℕ
+writeText o = orRefused (o .verdict) (wordLine writeWord)
+
+abbrev pub replyText : ReplyOutcome → List ℕ
+replyText o = orRefused (o .verdict) (wordLine replyWord)
+
+-- `registers DPC PC' GPR0 .. GPR31`
+abbrev pub registersText : Machine → List ℕ
+registersText m = numbersLine registersWord (m .pcs .dpc ∷ m .pcs .next ∷ m .gpr)
+
+-- `frames USED HAND B0 .. B31`
+abbrev pub framesText : FrameBook → List ℕ
+framesText b = numbersLine framesWord (b .used ∷ b .hand ∷ numbersOf (b .held))
+
+-- `sum M S`
+abbrev pub sumText : List ℕ → List ℕ → List ℕ
+sumText main swap = numbersLine sumWord (fnv1a 2166136261 main ∷ fnv1a 2166136261 swap ∷ [])
+
+-- ---- the calls: what is left of the machine and the lent bytes, and the line
+pub record Answer : Type 0 where
+  pub state : State
+  pub text : List ℕ
+
+-- a call that leaves all as it was
+abbrev pub told : State → List ℕ → Answer
+told p text = record { state = p; text = text }
+
+abbrev pub ran : RunOutcome → Answer
+ran o = told (o .state) (runText (o .numbers))
+
+abbrev pub wrote : StateOutcome → Answer
+wrote o = told (o .state) (writeText o)
+
+abbrev pub replied : ReplyOutcome → State → Answer
+replied o p = told (record { machine = o .machine; memory = p .memory }) (replyText o)
+
+-- each call, by its numbers and the bytes of its HEX
+unfoldable pub answered : Call → Numbers → List ℕ → State → Answer
+answered Run n bytes p = ran (runCall p (n .first))
+answered Read n bytes p = told p (readText (readCall p (n .first) (replicate (n .second) 0)))
+answered Write n bytes p = wrote (writeCall p (n .first) bytes)
+answered View n bytes p = told p (viewText (viewCall p (virtual (n .first))))
+answered Reply n bytes p = replied (replyCall (p .machine) (n .first) (n .second)) p
+answered Registers n bytes p = told p (registersText (p .machine))
+answered Frames n bytes p = told p (framesText (p .machine .book))
+answered Sum n bytes p = told p (sumText (p .memory .main) (p .memory .swap))
+
+-- the state p is what the call leaves, and its line stands in the buffer
+pub record Says (before : List ℕ) (at : ℕ) (after : List ℕ) (to : ℕ) (p : State) (a : Answer) : Type 0 where
+  pub text : Appended before at after to (a .text)
+  pub state : p ≡ a .state

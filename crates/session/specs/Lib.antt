@@ -1,0 +1,9 @@
+-- What a session of `series` writes and leaves.
+pub mod Fnv
+pub mod Lines
+pub mod Answers
+pub mod Desk
+pub mod Ready
+pub mod Script
+pub mod Series
+pub mod Promises

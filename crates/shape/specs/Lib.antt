@@ -1,0 +1,2 @@
+-- What the contract of the inner test names.
+pub mod Lengths

@@ -1,0 +1,2 @@
+-- What the contract of the pass over the table names.
+pub mod Holds

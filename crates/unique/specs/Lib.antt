@@ -1,0 +1,2 @@
+-- The statement that no two outcomes fit a promise.
+pub mod Unique

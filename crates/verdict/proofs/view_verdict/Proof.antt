@@ -1,0 +1,27 @@
+-- `view_verdict`: refused on the machine, or by the page.
+use mathlib.Core.Path.{ap, _∙_}
+use borrow.Author.Needs.{needs}
+use Rattle.model.specs.Calls.{unless, viewVerdict}
+use Rattle.model.specs.declared.Refusal.the-variants.{Rights}
+use Rattle.model.specs.declared.Verdict.the-variants.{Granted}
+use Rattle.verdict.proofs.Verdicts.{still-refused, onward, passed-fit}
+use Rattle.verdict.proofs.view_verdict.Statement.{statement}
+use Rattle.verdict.proofs.view_verdict.Tie as tie
+
+viewable-requires : tie.Need-viewable-requires
+viewable-requires c κs = passed-fit _ _ (c .before .before .machine-verdict .ensures) (c .enum-told .given .1)
+
+returns : tie.Need-returns
+unfolding viewVerdict
+returns c = still-refused _ _ (c .before .before .before .machine-verdict .ensures) _ (c .before .r .given .1) _
+
+returns-2 : tie.Need-returns-2
+unfolding viewVerdict
+returns-2 c =
+    let told = c .before .before in
+    c .unless .ensures
+    ∙ ap (λ b. unless b Rights Granted) (c .before .viewable .ensures)
+    ∙ onward _ _ (told .before .before .machine-verdict .ensures) (told .enum-told .given .1) _
+
+pub view-verdict-spec : {M : Type 1} → statement M
+view-verdict-spec = tie.close (tie.spec (λ c κs. search needs) (λ c. search needs) (λ c. search needs) viewable-requires (λ c κs. search needs) returns returns-2)

@@ -7,3 +7,4 @@ mod Asked
 mod Telling
 pub mod Talking
 mod Begun
+pub mod Whole

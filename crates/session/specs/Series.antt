@@ -1,10 +1,10 @@
 -- The program `series`: what it writes for an image, a number of main pages and a script.
-use mathlib.Core.Bool.{false}
+use mathlib.Core.Bool.{true, false}
 use mathlib.Core.Path.{_≡_}
-use mathlib.Core.List.{List, [], _∷_}
-use Prim.Native.Nat.{ℕ, _*_}
+use mathlib.Core.List.{List, [], _∷_, _++_}
+use Prim.Native.Nat.{ℕ, _*_, _≤_}
 use lib.Dec.{eqb, leb}
-use lib.ListN.{length, replicate}
+use lib.ListN.{length, drop, replicate}
 use Rattle.model.specs.Choice.{if_then_else_}
 use Rattle.model.specs.Answers.{refusalNumber}
 use Rattle.model.specs.Calls.{unless, StateOutcome}
@@ -54,6 +54,26 @@ talkAfter s script =
 
 unfoldable pub seriesTalk : List ℕ → ℕ → List ℕ → Talk
 seriesTalk file pages script = talkAfter (begun file pages (replicate 262144 0) (replicate 327680 0)) script
+
+-- ---- the same, piece by piece: behind the beginning each stretch as `Goes` has it, one after another to the script's end
+abbrev pub joined : List (List ℕ) → List ℕ
+joined [] = []
+joined (t ∷ ts) = t ++ joined ts
+
+-- n lines are done and byte p of the script is next; the texts of the stretches, and what stands at the end
+unfoldable pub Stretches : List ℕ → ℕ → Desk → ℕ → List (List ℕ) → Desk → Type 0
+Stretches script n d p [] last = (length script ≤ p) × (d ≡ last)
+Stretches script n d p (t ∷ ts) last =
+    (n′ : ℕ) × (d′ : Desk) × (p′ : ℕ)
+    × (talk n d (linesOf (drop p script)) ≡ behind t (talk n′ d′ (linesOf (drop p′ script)))) × Stretches script n′ d′ p′ ts last
+
+-- all that the program writes, and what it leaves, are the definition's
+abbrev pub WholeText : Type 0
+WholeText = (file : List ℕ) (pages : ℕ) (script : List ℕ) (ts : List (List ℕ)) (last : Desk)
+    → begun file pages (replicate 262144 0) (replicate 327680 0) .goesOn ≡ true
+    → Stretches script 0 (begun file pages (replicate 262144 0) (replicate 327680 0) .desk) 0 ts last
+    → seriesTalk file pages script
+    ≡ record { text = begun file pages (replicate 262144 0) (replicate 327680 0) .text ++ joined ts; desk = last }
 
 -- what the reader answered for the file
 pub record Read (file : List ℕ) (ptl start frames : ℕ) : Type 0 where

@@ -4,8 +4,8 @@ use mathlib.Core.Path.{_≡_, refl, ap, _∙_}
 use mathlib.Core.Bool.{Bool, true, false, _&&_}
 use Prim.Native.Nat.{ℕ, _<_, _≤_}
 use native.Mathlib.Omega.{arith}
-use lib.Dec.{leb}
-use borrow.Author.Tests.{ltb-true, leb-true, le-leb}
+use lib.Dec.{eqb, leb}
+use borrow.Author.Tests.{ltb-true, leb-true, le-leb, ne-eqb}
 use Rattle.model.specs.State.{State}
 use Rattle.model.specs.Sound.{fits, sound}
 use Rattle.model.specs.Answers.{refusalNumber, verdictNumbers}
@@ -30,6 +30,9 @@ refused TooMuch e = absurd (omega (arith, e))
 refused Edition e = absurd (omega (arith, e))
 refused Format e = absurd (omega (arith, e))
 refused Room e = absurd (omega (arith, e))
+
+pub some-number : (r : Refusal) → eqb (refusalNumber r) 0 ≡ false
+some-number r = ne-eqb (refusalNumber r) 0 (refused r)
 
 pub granted : (v : Verdict) → verdictNumbers v .refused ≡ 0 → v ≡ Granted
 granted Granted e = refl

@@ -1,1 +1,2 @@
 mod Printed
+mod Poked

@@ -4,8 +4,8 @@ use mathlib.Core.Path.{_≡_, sym, ap, ap₂, _∙_}
 use mathlib.Core.Bool.{Bool, false}
 use mathlib.Core.List.{List}
 use Prim.Native.Nat.{ℕ, _*_, _≤_, _<_}
-use borrow.Author.Tests.{le-leb, lt-leb, ne-eqb}
-use lib.Dec.{eqb, leb}
+use borrow.Author.Tests.{le-leb, lt-leb}
+use lib.Dec.{leb}
 use lib.ListN.{length, replicate, length-replicate}
 use lib.Seq.{length-take-le}
 use Rattle.model.specs.State.{Memory, State, memory}
@@ -22,16 +22,13 @@ use Rattle.model.specs.declared.RunAnswer.{RunAnswer}
 use Rattle.model.specs.declared.RunAnswer.the-variants.{Ran, NotRun}
 use Rattle.model.specs.declared.Stop.{Stop}
 use Rattle.text.specs.Text.{numbersOf}
-use Rattle.laws.proofs.Granted.{refused}
+use Rattle.laws.proofs.Granted.{some-number}
 use Rattle.laws.proofs.Formed.{image-onward}
 use Rattle.image.proofs.Accepted.{read-image, read-refused}
 
 -- what loading hands back
 abbrev loadOutcome : Verdict → State → StateOutcome
 loadOutcome v p = record { verdict = verdictNumbers v; state = p }
-
-some-number : (r : Refusal) → eqb (refusalNumber r) 0 ≡ false
-some-number r = ne-eqb (refusalNumber r) 0 (refused r)
 
 -- ---- a run, by what it answers
 module _ (a : RunAnswer) (p : State) (o : RunOutcome) (answers : runOutcome a p ≡ o) where

@@ -5,7 +5,7 @@ use mathlib.Core.Bool.{Bool, true, false}
 use mathlib.Core.List.{List}
 use Prim.Native.Nat.{ℕ, _*_, _≤_, _<_}
 use native.Mathlib.Omega.{arith}
-use borrow.Author.Tests.{le-leb, lt-leb, ne-eqb}
+use borrow.Author.Tests.{le-leb, lt-leb}
 use lib.Dec.{eqb, leb}
 use lib.ListN.{length, take, take-append-drop}
 use Rattle.model.specs.Choice.{if_then_else_}
@@ -19,7 +19,7 @@ use Rattle.model.specs.declared.Refusal.the-variants.{Room}
 use Rattle.model.specs.declared.Verdict.{Verdict}
 use Rattle.model.specs.declared.Verdict.the-variants.{Granted, Refused}
 use Rattle.model.specs.declared.ImageAnswer.the-variants.{Image, NotImage}
-use Rattle.laws.proofs.Granted.{refused}
+use Rattle.laws.proofs.Granted.{refused, some-number}
 use Rattle.laws.proofs.Formed.{image-onward}
 use Rattle.image.proofs.Accepted.{read-image, read-refused}
 use Rattle.text.specs.Text.{Appended}
@@ -29,9 +29,6 @@ use Rattle.session.specs.Series.{admits, turnedAway, loadedText, lentFor
 use Rattle.session.specs.declared.Told.{Told}
 
 -- ---- loading, by its answer
-some-number : (r : Refusal) → eqb (refusalNumber r) 0 ≡ false
-some-number r = ne-eqb (refusalNumber r) 0 (refused r)
-
 kept-by : (v : Verdict) (r : Refusal) (l : List ℕ) (m : Memory) → loadBy v l m .verdict .refused ≡ refusalNumber r → loadBy v l m .state .memory ≡ m
 kept-by Granted r l m e = refused r (sym e)
 kept-by (Refused q) r l m e = refl

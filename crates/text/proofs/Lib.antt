@@ -1,4 +1,5 @@
 pub mod Appending
+mod Stray
 mod Digits
 mod Grouped
 pub mod Fronts

@@ -1,3 +1,3 @@
 -- The laws of the readers.
-mod Ways
+pub mod Ways
 pub mod Within

@@ -11,22 +11,6 @@ ghost use Rattle.session.specs.Desk.{desk};
 ghost use Rattle.session.specs.Ready.{Lent, Room};
 ghost use Rattle.session.specs.Script.{linesOf, talk};
 
-// A decimal number below 2^32 and nothing behind it.
-fn pages_of(word: &[u8]) -> Part {
-    match reading::number_at(word, 0, 4294967295) {
-        Part::NotNumber { column } => Part::NotNumber { column: column },
-        Part::Number { value, next } => {
-            if next != word.len() {
-                return Part::NotNumber { column: 1 };
-            }
-            Part::Number {
-                value: value,
-                next: next,
-            }
-        }
-    }
-}
-
 fn fail(message: &[u8]) {
     io::write_all(2, message);
 }
@@ -104,9 +88,12 @@ fn main() {
         return fail(b"usage: series IMAGE_FILE MAIN_PAGES < SCRIPT\n");
     }
     let digits = os::arg(2, &mut word);
-    let Part::Number { value, next: _ } = pages_of(&word[..digits]) else {
+    let Part::Number { value, next } = reading::number_at(&word[..digits], 0, 4294967295) else {
         return fail(b"series: MAIN_PAGES is a decimal number below 2^32\n");
     };
+    if next != digits {
+        return fail(b"series: MAIN_PAGES is a decimal number below 2^32\n");
+    }
     let length = os::arg(1, &mut name);
     let file = os::open_read(&name[..length]);
     if file < 0 {

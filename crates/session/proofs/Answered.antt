@@ -14,8 +14,10 @@ use Rattle.model.specs.declared.Verdict.the-variants.{Granted, Refused}
 use Rattle.model.specs.declared.RunAnswer.{RunAnswer}
 use Rattle.model.specs.declared.RunAnswer.the-variants.{Ran, NotRun}
 use Rattle.script.specs.Vocabulary.{runWord}
+use Rattle.script.specs.declared.parts.Numbers.{Numbers}
+use Rattle.script.specs.declared.Call.{Call}
 use Rattle.session.specs.Lines.{numbersLine}
-use Rattle.session.specs.Answers.{runText, Answer, Says}
+use Rattle.session.specs.Answers.{runText, Answer, answered, Says}
 
 refused-text : (r : Refusal) (line : List ℕ) → refusedLine (refusalNumber r) ≡ orRefused (verdictNumbers (Refused r)) line
 refused-text Bound line = refl
@@ -53,3 +55,8 @@ module _ (a : RunAnswer) (p : State) (o : RunOutcome) (e : runOutcome a p ≡ o)
 -- the same answer, said otherwise
 pub said-as : {before after : List ℕ} {at to : ℕ} {p : State} {a b : Answer} → Says before at after to p a → a ≡ b → Says before at after to p b
 said-as s e = rw e at s
+
+-- the answer of a call c, which is known to be x
+pub answered-as : {c x : Call} → c ≡ x → (n : Numbers) (bytes : List ℕ) (p : State) {before after : List ℕ} {at to : ℕ} {q : State}
+    → Says before at after to q (answered x n bytes p) → Says before at after to q (answered c n bytes p)
+answered-as e n bytes p s = rw e s

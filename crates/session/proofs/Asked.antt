@@ -1,11 +1,11 @@
 -- What a line asks for, as code has it: its digits are the rest of the line, and its numbers keep to the table.
 use mathlib.Core.Path.{_≡_, refl, sym, ap, ap₂, subst, _∙_}
-use mathlib.Core.List.{List, _∷_}
+use mathlib.Core.List.{List, _∷_, _++_}
 use Prim.Native.Nat.{ℕ, suc, zero, _+_, _-_, _/_, _≤_}
 use native.Mathlib.Nat.{not-suc-le-zero}
 use native.Mathlib.Omega.{arith}
-use lib.ListN.{length, take, drop, replicate, length-drop, length-replicate}
-use lib.Seq.{take-all, length-take-le}
+use lib.ListN.{length, take, drop, replicate, length-append, length-drop, length-replicate}
+use lib.Seq.{take-all, take-at, length-take-le}
 use Rattle.laws.specs.Over.{over}
 use Rattle.laws.proofs.Over.{part-over}
 use Rattle.text.specs.Reading.{bytesOf}
@@ -22,11 +22,18 @@ module _ (l : List ℕ) (h : ℕ) where
   pub rest-is : take (length l - h) (drop h l) ≡ drop h l
   rest-is = take-all (length l - h) (drop h l) (omega (arith, length-drop h l))
 
-  pub length-rest : length (take (length l - h) (drop h l)) ≡ length l - h
+  length-rest : length (take (length l - h) (drop h l)) ≡ length l - h
   length-rest = ap length rest-is ∙ length-drop h l
 
   pub rest-keeps : (row : Row) (n : Numbers) → Keeps row n ((length l - h) / 2) → Keeps row n (length (take (length l - h) (drop h l)) / 2)
   rest-keeps row n k = subst (λ (m : ℕ). Keeps row n (m / 2)) (sym length-rest) k
+
+  pub short-rest : length l ≤ 65536 → length (take (length l - h) (drop h l)) ≤ 65536
+  short-rest k = omega (arith, length-rest)
+
+-- the part of a buffer that is lent
+pub lent-long : (k : ℕ) (l : List ℕ) (n : ℕ) → k ≤ n → length l ≡ n → k ≡ length (take k l)
+lent-long k l n h e = sym (length-take-le k l (omega arith))
 
 -- the same of a call or a change that is known
 pub keeps-call : {c x : Call} → c ≡ x → (n : Numbers) (k : ℕ) → Keeps (callRow c) n k → Keeps (callRow x) n k
@@ -43,6 +50,18 @@ take-zeros (suc k) (suc n) h = ap (λ (l : List ℕ). 0 ∷ l) (take-zeros k n (
 
 pub length-zeros : (k n : ℕ) → k ≤ n → length {A = ℕ} (take k (replicate n 0)) ≡ k
 length-zeros k n h = length-take-le {A = ℕ} k (replicate n 0) (omega (arith, length-replicate {A = ℕ} n 0))
+
+-- the same part, filled with as many bytes: it is those, and the buffer is as long as it was
+module _ (k n : ℕ) (h : k ≤ n) (ys : List ℕ) (long : length ys ≡ length {A = ℕ} (take k (replicate n 0))) where
+  pub part-filled : take k (ys ++ drop k (replicate n 0)) ≡ ys
+  part-filled = take-at ys (drop k (replicate n 0)) k (long ∙ length-zeros k n h)
+
+  pub length-part : length (take k (ys ++ drop k (replicate n 0))) ≡ k
+  length-part = ap length part-filled ∙ long ∙ length-zeros k n h
+
+  pub length-filled : length (ys ++ drop k (replicate n 0)) ≡ n
+  length-filled =
+      omega (arith, length-append {A = ℕ} ys (drop k (replicate n 0)), length-drop {A = ℕ} k (replicate n 0), length-replicate {A = ℕ} n 0, long ∙ length-zeros k n h)
 
 -- ---- the bytes of digits, put into a buffer of zeros from its start on
 pub digits-taken : (digits into : List ℕ) → length digits ≤ 65536 → into ≡ over 0 (bytesOf digits) (replicate 32768 0)

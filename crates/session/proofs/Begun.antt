@@ -23,7 +23,7 @@ use Rattle.laws.proofs.Granted.{refused, some-number}
 use Rattle.laws.proofs.Formed.{image-onward}
 use Rattle.image.proofs.Accepted.{read-image, read-refused}
 use Rattle.text.specs.Text.{Appended}
-use Rattle.session.specs.Desk.{Desk, desk, standing, lent, handedBack, Spoken, onward, goingOn, Tells}
+use Rattle.session.specs.Desk.{Desk, desk, standing, lent, handedBack, Spoken, onward, toldOf, Tells}
 use Rattle.session.specs.Ready.{Lent}
 use Rattle.session.specs.Series.{admits, turnedAway, loadedText, lentFor, begunBy, begun, Read, TurnedAway}
 use Rattle.session.specs.declared.Told.{Told}
@@ -53,7 +53,7 @@ module _ (file : List ℕ) (d : Desk) (v : Verdict) (p : State) (loaded : record
       rw (← g, some-number r, back, take-append-drop (d .standing .main) (d .main), take-append-drop (d .standing .swap) (d .swap)) (away (d .main) (d .swap))
 
   into-granted : v ≡ Granted → (filled : ℕ) → Appended before 0 after filled (loadedText (ptlOf file) (startOf file) (framesOf file))
-      → TellsBack before after (goingOn (p .machine) (d .standing .main) (d .standing .swap) filled) (handedBack d p) (begunBy Granted file d)
+      → TellsBack before after (toldOf (p .machine) (d .standing .main) (d .standing .swap) filled true) (handedBack d p) (begunBy Granted file d)
   into-granted e filled text =
       let g : record { verdict = verdictNumbers Granted; state = p } ≡ loadCall file (lent d .memory) = rw e at loaded in
       rw (← g) (record { desk-is = refl; text = text; goes = refl })
@@ -77,7 +77,7 @@ module _ {file : List ℕ} {ptl start frames : ℕ} (read : Read file ptl start 
         as-read (handedBack d (state m ys zs)) (into-refused file d v (state m ys zs) loaded r e away)
 
     pub load-granted : v ≡ Granted → {filled : ℕ} → Appended before 0 after filled (loadedText ptl start frames)
-        → {told : Told} → told ≡ goingOn m (4096 * pages) (4096 * ptl) filled
+        → {told : Told} → told ≡ toldOf m (4096 * pages) (4096 * ptl) filled true
         → TellsBack before after told (handedBack (lentTo pages ptl main swap) (state m ys zs)) (begunBy Granted file (lentFor file pages main swap))
     load-granted e {filled} text h =
         let d : Desk = lentTo pages ptl main swap in

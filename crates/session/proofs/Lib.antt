@@ -4,6 +4,7 @@ mod Spaced
 mod Viewed
 mod Answered
 mod Asked
+mod Spelled
 mod Telling
 pub mod Talking
 mod Begun

@@ -23,9 +23,8 @@ spaced-next l i h =
     sym (rw (add-one, take-suc l i 0)
     (spaced-append (take i l) (getD l i 0 ∷ []) ∙ ap (λ (x : List ℕ). spacedAll (take i l) ++ x) (spaced-one (getD l i 0))))
 
--- two numbers and more of them, in one line
-pub long-grouped : (word : List ℕ) (x y : ℕ) (more : List ℕ)
-    → word ++ (spacedAll (x ∷ y ∷ []) ++ (spacedAll more ++ newline)) ≡ numbersLine word (x ∷ y ∷ more)
-long-grouped word x y more =
-    ap (λ (l : List ℕ). word ++ l) (sym (append-assoc (spacedAll (x ∷ y ∷ [])) (spacedAll more) newline)
-    ∙ ap (λ (l : List ℕ). l ++ newline) (sym (spaced-append (x ∷ y ∷ []) more)))
+-- numbers and more of them, in one line
+pub grouped : (word first more : List ℕ) → word ++ (spacedAll first ++ (spacedAll more ++ newline)) ≡ numbersLine word (first ++ more)
+grouped word first more =
+    ap (λ (l : List ℕ). word ++ l) (sym (append-assoc (spacedAll first) (spacedAll more) newline)
+    ∙ ap (λ (l : List ℕ). l ++ newline) (sym (spaced-append first more)))

@@ -95,8 +95,8 @@ unfoldable pub spoken : ℕ → List ℕ → Desk → Spoken
 spoken number l d = spokenBy (lineOf l) number l d
 
 -- ---- what code hands back
-abbrev pub goingOn : Machine → ℕ → ℕ → ℕ → Told
-goingOn m a s filled = record { standing = standing m a s; filled = filled; «goes_on» = true }
+abbrev pub toldOf : Machine → ℕ → ℕ → ℕ → Bool → Told
+toldOf m a s filled on = record { standing = standing m a s; filled = filled; «goes_on» = on }
 
 -- it says what a line leaves: the desk, the answer in the buffer, and whether the script goes on
 pub record Tells (before : List ℕ) (at : ℕ) (after : List ℕ) (r : Told) (main swap : List ℕ) (s : Spoken) : Type 0 where

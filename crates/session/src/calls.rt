@@ -22,7 +22,7 @@ ghost use Rattle.text.specs.Text.{Appended};
 ghost use Rattle.text.specs.Reading.{bytesOf};
 ghost use Rattle.script.specs.Table.{callRow};
 ghost use Rattle.script.specs.Keeping.{Keeps};
-ghost use Rattle.session.specs.Lines.{wordLine};
+ghost use Rattle.session.specs.Lines.{hexLine};
 ghost use Rattle.session.specs.Answers as answers;
 
 // The record afterwards, and the place behind the line.
@@ -31,14 +31,15 @@ pub(crate) struct Done {
     pub filled: usize,
 }
 
-// The word of a call that answers nothing more, or its refusal.
-fn verdict_line(out: &mut [u8], at: usize, verdict: Verdict, word: &[u8]) -> usize
-    requires { ⌜ (at + 128 ≤ length (now out)) × (length (now word) ≤ 100) ⌝ }
-    ensures { λ r. ⌜ Appended (now (out .entry)) at (now (out .exit)) r (orRefused (verdictNumbers verdict) (wordLine (now (word .entry)))) ⌝ }
+// What a call answers, or its refusal.
+fn verdict_line(out: &mut [u8], at: usize, v: Verdict, word: &[u8], bytes: &[u8]) -> usize
+    requires { ⌜ (at + 128 + 2 * length (now bytes) ≤ length (now out)) × (length (now word) ≤ 100) ⌝ }
+    ensures { λ r. ⌜ Appended (now (out .entry)) at (now (out .exit)) r
+        (orRefused (verdictNumbers v) (hexLine (now (word .entry)) (now (bytes .entry)))) ⌝ }
 {
-    match verdict {
+    match v {
         Verdict::Refused(refusal) => refused_line(out, at, refusal_number(refusal)),
-        Verdict::Granted => lines::word_line(out, at, word),
+        Verdict::Granted => lines::hex_line(out, at, word, bytes),
     }
 }
 
@@ -59,62 +60,26 @@ fn run(m: Machine, main: &mut [u8], swap: &mut [u8], limit: u32, out: &mut [u8],
             loads,
         } => {
             let number = answers::stop_number(stop);
-            let numbers = [number, answers::stop_detail(stop), finished, loads];
-            left(after, lines::numbers_line(out, at, b"run", &numbers))
+            let why = [number, answers::stop_detail(stop)];
+            let counts = [finished, loads];
+            left(after, lines::numbers_line(out, at, b"run", &why, &counts))
         }
     }
 }
 
-// `read VA LEN`, where LEN is the length of the buffer to fill
-fn read_into(
-    m: Machine,
-    main: &[u8],
-    swap: &[u8],
-    va: u32,
-    into: &mut [u8],
-    out: &mut [u8],
-    at: usize,
-) -> usize
-    requires { ⌜ at + 128 + 2 * length (now into) ≤ length (now out) ⌝ }
-    ensures { λ r. ⌜ Appended (now (out .entry)) at (now (out .exit)) r
-        (answers.readText (calls.readCall (state m (now (main .entry)) (now (swap .entry))) va (now (into .entry)))) ⌝ }
-{
-    match machine::host_read(m, main, swap, va, into) {
-        Verdict::Refused(refusal) => refused_line(out, at, refusal_number(refusal)),
-        Verdict::Granted => lines::hex_line(out, at, b"read ", into),
-    }
-}
-
-fn read(m: Machine, main: &[u8], swap: &[u8], n: Numbers, out: &mut [u8], at: usize) -> usize
+// `read VA LEN`
+fn read(m: Machine, main: &[u8], swap: &[u8], n: Numbers, out: &mut [u8], at: usize) -> Done
     requires { ⌜ (at + 9000 ≤ length (now out)) × (n .second ≤ 512) ⌝ }
-    ensures { λ r. ⌜ Appended (now (out .entry)) at (now (out .exit)) r
+    ensures { λ r. ⌜ (r .machine ≡ m) × Appended (now (out .entry)) at (now (out .exit)) (r .filled)
         (answers.readText (calls.readCall (state m (now (main .entry)) (now (swap .entry))) (n .first) (replicate (n .second) 0))) ⌝ }
 {
     let mut space = [0; 512];
     let k = n.second as usize;
-    read_into(m, main, swap, n.first, &mut space[..k], out, at)
+    let verdict = machine::host_read(m, main, swap, n.first, &mut space[..k]);
+    left(m, verdict_line(out, at, verdict, b"read ", &space[..k]))
 }
 
 // `write VA HEX`
-fn write_from(
-    m: Machine,
-    main: &mut [u8],
-    swap: &mut [u8],
-    va: u32,
-    from: &[u8],
-    out: &mut [u8],
-    at: usize,
-) -> Done
-    requires { ⌜ at + 128 ≤ length (now out) ⌝ }
-    ensures { λ r. ⌜ answers.Says (now (out .entry)) at (now (out .exit)) (r .filled) (state (r .machine) (now (main .exit)) (now (swap .exit)))
-        (answers.wrote (calls.writeCall (state m (now (main .entry)) (now (swap .entry))) va (now (from .entry)))) ⌝ }
-{
-    let handed = machine::host_write(m, main, swap, va, from);
-    let after = handed.machine;
-    let verdict = handed.verdict;
-    left(after, verdict_line(out, at, verdict, b"write"))
-}
-
 fn write(
     m: Machine,
     main: &mut [u8],
@@ -129,74 +94,67 @@ fn write(
         (answers.wrote (calls.writeCall (state m (now (main .entry)) (now (swap .entry))) va (bytesOf (now (digits .entry))))) ⌝ }
 {
     let mut space = [0; 32768];
-    let n = digits.len() / 2;
+    let k = digits.len() / 2;
     reading::put_bytes(digits, &mut space, 0);
-    write_from(m, main, swap, va, &space[..n], out, at)
+    let handed = machine::host_write(m, main, swap, va, &space[..k]);
+    let after = handed.machine;
+    let verdict = handed.verdict;
+    left(after, verdict_line(out, at, verdict, b"write", b""))
 }
 
 // `view PAGE`
-fn view<'a>(
-    m: Machine,
-    main: &'a [u8],
-    swap: &'a [u8],
-    page: u32,
-    out: &mut [u8],
-    at: usize,
-) -> usize
+fn view<'a>(m: Machine, main: &'a [u8], swap: &'a [u8], p: u32, out: &mut [u8], at: usize) -> Done
     requires { ⌜ at + 9000 ≤ length (now out) ⌝ }
-    ensures { λ r. ⌜ Appended (now (out .entry)) at (now (out .exit)) r
-        (answers.viewText (calls.viewCall (state m (now (main .entry)) (now (swap .entry))) (virtual page))) ⌝ }
+    ensures { λ r. ⌜ (r .machine ≡ m) × Appended (now (out .entry)) at (now (out .exit)) (r .filled)
+        (answers.viewText (calls.viewCall (state m (now (main .entry)) (now (swap .entry))) (virtual p))) ⌝ }
 {
-    match machine::view_answer(m, main, swap, VirtualPage(page)) {
-        Verdict::Refused(refusal) => refused_line(out, at, refusal_number(refusal)),
-        Verdict::Granted => {
-            let part = machine::page_view(m, main, swap, VirtualPage(page));
-            lines::hex_line(out, at, b"view ", part)
-        }
-    }
+    let verdict = machine::view_answer(m, main, swap, VirtualPage(p));
+    let part = machine::page_view(m, main, swap, VirtualPage(p));
+    left(m, verdict_line(out, at, verdict, b"view ", part))
 }
 
 // `reply I V`
 fn reply(m: Machine, n: Numbers, out: &mut [u8], at: usize) -> Done
     requires { ⌜ at + 128 ≤ length (now out) ⌝ }
-    ensures { λ r. ⌜ Appended (now (out .entry)) at (now (out .exit)) (r .filled) (answers.replyText (calls.replyCall m (n .first) (n .second)))
-        × (r .machine ≡ calls.replyCall m (n .first) (n .second) .machine) ⌝ }
+    ensures { λ r. ⌜ (r .machine ≡ calls.replyCall m (n .first) (n .second) .machine)
+        × Appended (now (out .entry)) at (now (out .exit)) (r .filled) (answers.replyText (calls.replyCall m (n .first) (n .second))) ⌝ }
 {
     let handed = machine::reply(m, n.first, n.second);
     let after = handed.machine;
     let verdict = handed.verdict;
-    left(after, verdict_line(out, at, verdict, b"reply"))
+    left(after, verdict_line(out, at, verdict, b"reply", b""))
 }
 
 // `registers`
-fn registers(m: Machine, out: &mut [u8], at: usize) -> usize
+fn registers(m: Machine, out: &mut [u8], at: usize) -> Done
     requires { ⌜ at + 512 ≤ length (now out) ⌝ }
-    ensures { λ r. ⌜ Appended (now (out .entry)) at (now (out .exit)) r (answers.registersText m) ⌝ }
+    ensures { λ r. ⌜ (r .machine ≡ m) × Appended (now (out .entry)) at (now (out .exit)) (r .filled) (answers.registersText m) ⌝ }
 {
-    let pcs = m.pcs;
+    let pcs = [m.pcs.dpc, m.pcs.next];
     let gpr = m.gpr;
-    lines::long_line(out, at, b"registers", pcs.dpc, pcs.next, gpr)
+    left(m, lines::numbers_line(out, at, b"registers", &pcs, &gpr))
 }
 
 // `frames`
-fn frames(m: Machine, out: &mut [u8], at: usize) -> usize
+fn frames(m: Machine, out: &mut [u8], at: usize) -> Done
     requires { ⌜ at + 512 ≤ length (now out) ⌝ }
-    ensures { λ r. ⌜ Appended (now (out .entry)) at (now (out .exit)) r (answers.framesText (m .book)) ⌝ }
+    ensures { λ r. ⌜ (r .machine ≡ m) × Appended (now (out .entry)) at (now (out .exit)) (r .filled) (answers.framesText (m .book)) ⌝ }
 {
-    let book = m.book;
-    let held = book.held;
+    let first = [m.book.used, m.book.hand];
+    let held = m.book.held;
     let numbers = record::numbers_of(held);
-    lines::long_line(out, at, b"frames", book.used, book.hand, numbers)
+    left(m, lines::numbers_line(out, at, b"frames", &first, &numbers))
 }
 
 // `sum`, of the lent bytes
-fn sum(main: &[u8], swap: &[u8], out: &mut [u8], at: usize) -> usize
+fn sum(m: Machine, main: &[u8], swap: &[u8], out: &mut [u8], at: usize) -> Done
     requires { ⌜ at + 128 ≤ length (now out) ⌝ }
-    ensures { λ r. ⌜ Appended (now (out .entry)) at (now (out .exit)) r (answers.sumText (now (main .entry)) (now (swap .entry))) ⌝ }
+    ensures { λ r. ⌜ (r .machine ≡ m)
+        × Appended (now (out .entry)) at (now (out .exit)) (r .filled) (answers.sumText (now (main .entry)) (now (swap .entry))) ⌝ }
 {
-    let of_main = fnv1a(main);
-    let numbers = [of_main, fnv1a(swap)];
-    lines::numbers_line(out, at, b"sum", &numbers)
+    let of_main = [fnv1a(main)];
+    let of_swap = [fnv1a(swap)];
+    left(m, lines::numbers_line(out, at, b"sum", &of_main, &of_swap))
 }
 
 fn left(m: Machine, filled: usize) -> Done
@@ -224,12 +182,12 @@ pub(crate) fn answer(
 {
     match call {
         Call::Run => run(m, main, swap, n.first, out, at),
-        Call::Read => left(m, read(m, main, swap, n, out, at)),
+        Call::Read => read(m, main, swap, n, out, at),
         Call::Write => write(m, main, swap, n.first, digits, out, at),
-        Call::View => left(m, view(m, main, swap, n.first, out, at)),
+        Call::View => view(m, main, swap, n.first, out, at),
         Call::Reply => reply(m, n, out, at),
-        Call::Registers => left(m, registers(m, out, at)),
-        Call::Frames => left(m, frames(m, out, at)),
-        Call::Sum => left(m, sum(main, swap, out, at)),
+        Call::Registers => registers(m, out, at),
+        Call::Frames => frames(m, out, at),
+        Call::Sum => sum(m, main, swap, out, at),
     }
 }

@@ -2,20 +2,14 @@
 ghost use mathlib.Core.Path.{_≡_};
 ghost use Rattle.session.specs.Fnv as fnv;
 
-fn mixed(sum: u32, byte: u8) -> u32
-    ensures { λ r. ⌜ r ≡ fnv.mixed sum byte ⌝ }
-{
-    let x = (sum ^ (byte as u32)) as u64;
-    (x * 16777619 % 4294967296) as u32
-}
-
 pub fn fnv1a(bytes: &[u8]) -> u32
     ensures { λ r. ⌜ r ≡ fnv.fnv1a 2166136261 (now (bytes .entry)) ⌝ }
 {
     let mut sum: u32 = 2166136261;
     let mut i = 0;
     while i < bytes.len() {
-        sum = mixed(sum, bytes[i]);
+        let joined = (sum ^ (bytes[i] as u32)) as u64;
+        sum = (joined * 16777619 % 4294967296) as u32;
         i += 1;
     }
     sum

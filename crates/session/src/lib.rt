@@ -50,15 +50,8 @@ fn turned_away(refusal: Refusal, out: &mut [u8]) -> Told
 {
     let handed = loading::fresh::refused(refusal);
     let nothing = handed.machine;
-    Told {
-        standing: Standing {
-            machine: nothing,
-            main: 0,
-            swap: 0,
-        },
-        filled: refused_line(out, 0, refusal_number(refusal)),
-        goes_on: false,
-    }
+    let filled = refused_line(out, 0, refusal_number(refusal));
+    step::told(nothing, 0, 0, filled, false)
 }
 
 // The image is well formed, and the main pages asked for are 64 at most: only loading may refuse it.
@@ -84,9 +77,10 @@ fn load(
     match verdict {
         Verdict::Refused(refusal) => turned_away(refusal, out),
         Verdict::Granted => {
-            let numbers = [ptl, start, frames];
-            let filled = lines::numbers_line(out, 0, b"loaded", &numbers);
-            step::onward(machine, a, s, filled)
+            let pages = [ptl];
+            let numbers = [start, frames];
+            let filled = lines::numbers_line(out, 0, b"loaded", &pages, &numbers);
+            step::told(machine, a, s, filled, true)
         }
     }
 }

@@ -5,21 +5,16 @@ use native.Mathlib.Omega.{arith}
 use lib.ListN.{length-replicate}
 use lib.Seq.{length-take-le}
 use Rattle.text.proofs.Appending.{within, length-appended}
+use Rattle.series.proofs.Going.{zeros, room-kept, short}
 use borrow.Author.Needs.{needs}
 use Rattle.series.proofs.with_file.Statement.{statement}
 use Rattle.series.proofs.with_file.Tie as tie
 
 begin-requires : tie.Need-begin-requires
-begin-requires c κs =
-    record {
-      main-long = length-replicate {A = ℕ} 262144 0;
-      swap-long = length-replicate {A = ℕ} 327680 0;
-      out-long = omega (arith, length-replicate {A = ℕ} 65536 0);
-    }
+begin-requires c κs = zeros
 
 array-share-prefix-out : tie.Need-array-share-prefix-out
-array-share-prefix-out c =
-    let r = c .before .before .before .begin in omega (arith, within (r .ensures .0 .text), length-appended (r .ensures .0 .text), length-replicate {A = ℕ} 65536 0)
+array-share-prefix-out c = within (c .before .before .before .begin .ensures .0 .text)
 
 slice-aggregate-write-all : tie.Need-slice-aggregate-write-all
 slice-aggregate-write-all c =
@@ -28,13 +23,9 @@ slice-aggregate-write-all c =
 go-requires : tie.Need-go-requires
 go-requires c κs =
     let r = c .before .before .before .before .before .before .before .before .before .before .begin in (
-      record {
-        main-long = r .kept .1 .1 .0 ∙ length-replicate {A = ℕ} 262144 0;
-        swap-long = r .kept .1 .1 .1 .0 ∙ length-replicate {A = ℕ} 327680 0;
-        out-long = omega (arith, length-appended (r .ensures .0 .text), length-replicate {A = ℕ} 65536 0);
-      },
+      room-kept zeros (r .kept .1 .1 .0) (r .kept .1 .1 .1 .0) (length-appended (r .ensures .0 .text)),
       r .ensures .1,
-      omega (arith, c .before .before .before .before .before .before .before .before .before .before .before .before .before .before .before .before .read-full .ensures .1, c .before .before .before .before .before .before .before .before .before .before .before .before .before .before .if1 .left),
+      short (c .before .before .before .before .before .before .before .before .before .before .before .before .before .before .before .before .read-full .ensures .1) (c .before .before .before .before .before .before .before .before .before .before .before .before .before .before .if1 .left),
     )
 
 pub with-file-spec : {M : Type 1} → statement M

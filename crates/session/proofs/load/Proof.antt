@@ -10,37 +10,37 @@ use Rattle.session.proofs.load.Tie as tie
 
 slice-aggregate-load : tie.Need-slice-aggregate-load
 slice-aggregate-load c =
-    let a = c .before .before .before .before .before .args in
-    sym (length-take-le (4096 * a .pages) (a .main .now) (omega arith))
+    let start = c .before .before .before .before .before in
+    sym (length-take-le (4096 * start .args .pages) (start .args .main .now) (omega arith))
 
 slice-aggregate-load-2 : tie.Need-slice-aggregate-load-2
 slice-aggregate-load-2 c =
-    let a = c .before .before .before .before .before .before .args in
-    sym (length-take-le (4096 * a .ptl) (a .swap .now) (omega arith))
+    let start = c .before .before .before .before .before .before in
+    sym (length-take-le (4096 * start .args .ptl) (start .args .swap .now) (omega arith))
 
 returns : tie.Need-returns
 returns c =
-    let away = c .before .before in
-    let answer = away .before .before .before in
-    let called = answer .before .before .before .before .before .before .before in
-    let start = called .before .before .before .before .before .before .before in
+    let at-turned-away = c .before .before in
+    let at-verdict = at-turned-away .before .before .before in
+    let at-load = at-verdict .before .before .before .before .before .before .before in
+    let start = at-load .before .before .before .before .before .before .before in
     let a = start .args in
-    load-refused (start .pre .0) (a .pages) (a .main .now) (a .swap .now) _ _ (called .load .ensures) _ (answer .verdict .given .1) (away .turned-away .ensures)
+    load-refused (start .pre .0) (a .pages) (a .main .now) (a .swap .now) _ _ (at-load .load .ensures) _ (at-verdict .verdict .given .1) (at-turned-away .turned-away .ensures)
 
 returns-2 : tie.Need-returns-2
 returns-2 c =
-    let line = c .before .before .before in
-    let answer = line .before .before .before .before in
-    let called = answer .before .before .before .before .before .before .before in
-    let start = called .before .before .before .before .before .before .before in
+    let at-numbers-line = c .before .before .before in
+    let at-enum-told = at-numbers-line .before .before .before .before .before in
+    let at-load = at-enum-told .before .before .before .before .before .before .before in
+    let start = at-load .before .before .before .before .before .before .before in
     let a = start .args in
-    load-granted (start .pre .0) (a .pages) (a .main .now) (a .swap .now) _ _ (called .load .ensures) (answer .enum-told .given .1)
-    (line .numbers-line .ensures) (c .onward .ensures)
+    load-granted (start .pre .0) (a .pages) (a .main .now) (a .swap .now) _ _ (at-load .load .ensures) (at-enum-told .enum-told .given .1) (at-numbers-line .numbers-line .ensures) (c .told .ensures)
 
 pub load-spec : {M : Type 1} → statement M
 load-spec =
     tie.close
     (tie.spec (λ c. search needs) (λ c. search needs) (λ c. search needs) slice-aggregate-load (λ c. search needs)
-    slice-aggregate-load-2 (λ c κs. search needs) (λ c. search needs) (λ c κs. search needs) (λ c. search needs) (λ c. search needs)
-    (λ c. search needs) (λ c κs. search needs) (λ c κs. search needs) (λ c. search needs) (λ c. search needs) (λ c. search needs)
-    returns (λ c. search needs) (λ c. search needs) (λ c. search needs) returns-2)
+    slice-aggregate-load-2 (λ c κs. search needs) (λ c. search needs) (λ c κs. search needs) (λ c. search needs)
+    (λ c. search needs) (λ c. search needs) (λ c. search needs) (λ c κs. search needs) (λ c κs. search needs)
+    (λ c. search needs) (λ c. search needs) (λ c. search needs) returns (λ c. search needs) (λ c. search needs)
+    (λ c. search needs) returns-2)

@@ -9,16 +9,19 @@ use Rattle.session.proofs.turned_away.Statement.{statement}
 use Rattle.session.proofs.turned_away.Tie as tie
 
 returns : tie.Need-returns
-returns c main swap =
-    let line = c .before .before in
-    let number = line .before in
-    record {
-      desk-is = ap (λ (h : Handed). desk (standing (h .machine) 0 0) main swap) (number .before .before .before .refused .ensures);
-      text = same (line .refused-line .ensures .0) (ap refusedLine (number .refusal-number .ensures));
+returns c =
+    let at-refused-line = c .before .before .before in
+    let at-refusal-number = at-refused-line .before in
+    let at-refused = at-refusal-number .before .before .before in
+    λ main swap.
+    rw (c .told .ensures) (record {
+      desk-is = ap (λ (h : Handed). desk (standing (h .machine) 0 0) main swap) (at-refused .refused .ensures);
+      text = same (at-refused-line .refused-line .ensures .0) (ap refusedLine (at-refusal-number .refusal-number .ensures));
       goes = refl;
-    }
+    })
 
 pub turned-away-spec : {M : Type 1} → statement M
 turned-away-spec =
     tie.close
-    (tie.spec (λ c κs. search needs) (λ c κs. search needs) (λ c κs. search needs) (λ c. search needs) returns)
+    (tie.spec (λ c κs. search needs) (λ c κs. search needs) (λ c κs. search needs) (λ c κs. search needs) (λ c. search needs)
+    returns)

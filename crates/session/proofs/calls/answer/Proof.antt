@@ -1,88 +1,107 @@
 -- `calls::answer`: each call as its definition says.
-use mathlib.Core.Path.{refl, sym, ap}
-use Rattle.model.specs.State.{memory, state}
+use mathlib.Core.Path.{ap}
+use Rattle.model.specs.State.{state}
 use Rattle.model.specs.declared.Machine.{Machine}
 use Rattle.text.specs.Reading.{bytesOf}
-use Rattle.script.specs.declared.Call.{Call}
 use Rattle.session.specs.Answers.{answered}
 use Rattle.session.proofs.Asked.{keeps-call}
-use Rattle.session.proofs.Answered.{said-as}
+use Rattle.session.proofs.Answered.{answered-as}
 use borrow.Author.Needs.{needs}
 use Rattle.session.proofs.calls.answer.Statement.{statement}
 use Rattle.session.proofs.calls.answer.Tie as tie
 
 read-requires : tie.Need-read-requires
 read-requires c κs =
-    let s = c .before .before .before .before .before .before .before .before .before in (s .pre .0, keeps-call (c .before .before .before .enum-told2 .given .1) (s .args .n) _ (s .pre .2) .1)
+    let at-enum-told2 = c .before .before .before in
+    let start = at-enum-told2 .before .before .before .before .before .before in
+    (start .pre .0, keeps-call (at-enum-told2 .enum-told2 .given .1) (start .args .n) _ (start .pre .2) .1)
 
 returns : tie.Need-returns
 unfolding answered
 returns c =
-    let a = c .before .before .before .before .before .before .before .before .before .before .before .before .before .before .before .before .args in
-    (said-as (c .before .before .before .before .before .before .run .ensures)
-    (ap (λ (z : Call). answered z (a .n) (bytesOf (a .digits .now)) (state (a .m) (a .main .now) (a .swap .now))) (sym (c .before .before .before .before .before .before .before .before .before .before .enum-told .given .1))))
+    let at-run = c .before .before .before .before .before .before in
+    let at-enum-told = at-run .before .before .before .before in
+    let start = at-enum-told .before .before .before .before .before .before in
+    let a = start .args in
+    answered-as (at-enum-told .enum-told .given .1) (a .n) (bytesOf (a .digits .now)) (state (a .m) (a .main .now) (a .swap .now))
+    (at-run .run .ensures)
 
 returns-2 : tie.Need-returns-2
 unfolding answered
 returns-2 c =
-    let a = c .before .before .before .before .before .before .before .before .before .before .before .before .before .args in
-    rw (c .left .ensures .0, c .left .ensures .1)
-    (said-as (record { text = c .before .before .before .read .ensures; state = refl })
-    (ap (λ (z : Call). answered z (a .n) (bytesOf (a .digits .now)) (state (a .m) (a .main .now) (a .swap .now))) (sym (c .before .before .before .before .before .before .before .enum-told2 .given .1))))
+    let at-read = c .before .before in
+    let at-enum-told2 = at-read .before .before .before .before in
+    let start = at-enum-told2 .before .before .before .before .before .before in
+    let a = start .args in
+    answered-as (at-enum-told2 .enum-told2 .given .1) (a .n) (bytesOf (a .digits .now)) (state (a .m) (a .main .now) (a .swap .now))
+    (record { text = at-read .read .ensures .1; state = ap (λ (m : Machine). state m (a .main .now) (a .swap .now)) (at-read .read .ensures .0) })
 
 returns-3 : tie.Need-returns-3
 unfolding answered
 returns-3 c =
-    let a = c .before .before .before .before .before .before .before .before .before .before .before .before .before .before .before .before .args in
-    (said-as (c .before .before .before .before .before .before .write .ensures)
-    (ap (λ (z : Call). answered z (a .n) (bytesOf (a .digits .now)) (state (a .m) (a .main .now) (a .swap .now))) (sym (c .before .before .before .before .before .before .before .before .before .before .enum-told3 .given .1))))
+    let at-write = c .before .before .before .before .before .before in
+    let at-enum-told3 = at-write .before .before .before .before in
+    let start = at-enum-told3 .before .before .before .before .before .before in
+    let a = start .args in
+    answered-as (at-enum-told3 .enum-told3 .given .1) (a .n) (bytesOf (a .digits .now)) (state (a .m) (a .main .now) (a .swap .now))
+    (at-write .write .ensures)
 
 returns-4 : tie.Need-returns-4
 unfolding answered
 returns-4 c =
-    let a = c .before .before .before .before .before .before .before .before .before .before .before .before .before .args in
-    rw (c .left2 .ensures .0, c .left2 .ensures .1)
-    (said-as (record { text = c .before .before .before .view .ensures; state = refl })
-    (ap (λ (z : Call). answered z (a .n) (bytesOf (a .digits .now)) (state (a .m) (a .main .now) (a .swap .now))) (sym (c .before .before .before .before .before .before .before .enum-told4 .given .1))))
+    let at-view = c .before .before in
+    let at-enum-told4 = at-view .before .before .before .before in
+    let start = at-enum-told4 .before .before .before .before .before .before in
+    let a = start .args in
+    answered-as (at-enum-told4 .enum-told4 .given .1) (a .n) (bytesOf (a .digits .now)) (state (a .m) (a .main .now) (a .swap .now))
+    (record { text = at-view .view .ensures .1; state = ap (λ (m : Machine). state m (a .main .now) (a .swap .now)) (at-view .view .ensures .0) })
 
 returns-5 : tie.Need-returns-5
 unfolding answered
 returns-5 c =
-    let a = c .before .before .before .before .before .before .before .before .before .before .args in
-    (said-as (record { text = c .before .before .reply .ensures .0; state = ap (λ (m : Machine). record { machine = m; memory = memory (a .main .now) (a .swap .now) }) (c .before .before .reply .ensures .1) })
-    (ap (λ (z : Call). answered z (a .n) (bytesOf (a .digits .now)) (state (a .m) (a .main .now) (a .swap .now))) (sym (c .before .before .before .before .enum-told5 .given .1))))
+    let at-reply = c .before .before in
+    let at-enum-told5 = at-reply .before .before in
+    let start = at-enum-told5 .before .before .before .before .before .before in
+    let a = start .args in
+    answered-as (at-enum-told5 .enum-told5 .given .1) (a .n) (bytesOf (a .digits .now)) (state (a .m) (a .main .now) (a .swap .now))
+    (record { text = at-reply .reply .ensures .1; state = ap (λ (m : Machine). state m (a .main .now) (a .swap .now)) (at-reply .reply .ensures .0) })
 
 returns-6 : tie.Need-returns-6
 unfolding answered
 returns-6 c =
-    let a = c .before .before .before .before .before .before .before .before .before .before .before .args in
-    rw (c .left3 .ensures .0, c .left3 .ensures .1)
-    (said-as (record { text = c .before .before .before .registers .ensures; state = refl })
-    (ap (λ (z : Call). answered z (a .n) (bytesOf (a .digits .now)) (state (a .m) (a .main .now) (a .swap .now))) (sym (c .before .before .before .before .before .enum-told6 .given .1))))
+    let at-registers = c .before .before in
+    let at-enum-told6 = at-registers .before .before in
+    let start = at-enum-told6 .before .before .before .before .before .before in
+    let a = start .args in
+    answered-as (at-enum-told6 .enum-told6 .given .1) (a .n) (bytesOf (a .digits .now)) (state (a .m) (a .main .now) (a .swap .now))
+    (record { text = at-registers .registers .ensures .1; state = ap (λ (m : Machine). state m (a .main .now) (a .swap .now)) (at-registers .registers .ensures .0) })
 
 returns-7 : tie.Need-returns-7
 unfolding answered
 returns-7 c =
-    let a = c .before .before .before .before .before .before .before .before .before .before .before .args in
-    rw (c .left4 .ensures .0, c .left4 .ensures .1)
-    (said-as (record { text = c .before .before .before .frames .ensures; state = refl })
-    (ap (λ (z : Call). answered z (a .n) (bytesOf (a .digits .now)) (state (a .m) (a .main .now) (a .swap .now))) (sym (c .before .before .before .before .before .enum-told7 .given .1))))
+    let at-frames = c .before .before in
+    let at-enum-told7 = at-frames .before .before in
+    let start = at-enum-told7 .before .before .before .before .before .before in
+    let a = start .args in
+    answered-as (at-enum-told7 .enum-told7 .given .1) (a .n) (bytesOf (a .digits .now)) (state (a .m) (a .main .now) (a .swap .now))
+    (record { text = at-frames .frames .ensures .1; state = ap (λ (m : Machine). state m (a .main .now) (a .swap .now)) (at-frames .frames .ensures .0) })
 
 returns-8 : tie.Need-returns-8
 unfolding answered
 returns-8 c =
-    let a = c .before .before .before .before .before .before .before .before .before .before .before .before .before .args in
-    rw (c .left5 .ensures .0, c .left5 .ensures .1)
-    (said-as (record { text = c .before .before .before .sum .ensures; state = refl })
-    (ap (λ (z : Call). answered z (a .n) (bytesOf (a .digits .now)) (state (a .m) (a .main .now) (a .swap .now))) (sym (c .before .before .before .before .before .before .before .enum-told8 .given .1))))
+    let at-sum = c .before .before in
+    let at-enum-told8 = at-sum .before .before .before .before in
+    let start = at-enum-told8 .before .before .before .before .before .before in
+    let a = start .args in
+    answered-as (at-enum-told8 .enum-told8 .given .1) (a .n) (bytesOf (a .digits .now)) (state (a .m) (a .main .now) (a .swap .now))
+    (record { text = at-sum .sum .ensures .1; state = ap (λ (m : Machine). state m (a .main .now) (a .swap .now)) (at-sum .sum .ensures .0) })
 
 pub answer-spec : {M : Type 1} → statement M
 answer-spec =
     tie.close
-    (tie.spec (λ c. search needs) (λ c κs. search needs) (λ c. search needs) read-requires (λ c κs. search needs)
-    (λ c. search needs) (λ c κs. search needs) (λ c. search needs) (λ c κs. search needs) (λ c κs. search needs)
-    (λ c. search needs) (λ c κs. search needs) (λ c. search needs) (λ c κs. search needs) (λ c κs. search needs)
-    (λ c. search needs) (λ c κs. search needs) (λ c κs. search needs) (λ c. search needs) (λ c κs. search needs)
+    (tie.spec (λ c. search needs) (λ c κs. search needs) (λ c. search needs) read-requires (λ c. search needs)
+    (λ c κs. search needs) (λ c. search needs) (λ c κs. search needs) (λ c. search needs) (λ c κs. search needs)
+    (λ c. search needs) (λ c κs. search needs) (λ c. search needs) (λ c κs. search needs) (λ c. search needs)
     (λ c κs. search needs) (λ c. search needs) (λ c. search needs) (λ c. search needs) returns (λ c. search needs)
     (λ c. search needs) (λ c. search needs) returns-2 (λ c. search needs) (λ c. search needs) (λ c. search needs) returns-3
     (λ c. search needs) (λ c. search needs) (λ c. search needs) returns-4 (λ c. search needs) returns-5 (λ c. search needs)

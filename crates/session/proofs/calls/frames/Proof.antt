@@ -11,11 +11,14 @@ use Rattle.session.proofs.calls.frames.Tie as tie
 
 returns : tie.Need-returns
 returns c =
-    let a = c .before .before .before .before .before .before .before .before .before .args in
-    same (c .before .before .long-line .ensures)
-    (ap (λ (held : List ℕ). numbersLine framesWord (a .m .book .used ∷ a .m .book .hand ∷ held)) (c .before .before .before .before .before .numbers-of .ensures))
+    let at-numbers-line = c .before .before .before in
+    let at-numbers-of = at-numbers-line .before .before .before .before .before in
+    let start = at-numbers-of .before .before .before in
+    let b = start .args .m .book in
+    (c .left .ensures .0, rw (c .left .ensures .1) (same (at-numbers-line .numbers-line .ensures) (ap (λ (held : List ℕ). numbersLine framesWord (b .used ∷ b .hand ∷ held)) (at-numbers-of .numbers-of .ensures))))
 
 pub frames-spec : {M : Type 1} → statement M
 frames-spec =
     tie.close
-    (tie.spec (λ c κs. search needs) (λ c. search needs) (λ c κs. search needs) (λ c. search needs) returns)
+    (tie.spec (λ c κs. search needs) (λ c. search needs) (λ c. search needs) (λ c. search needs) (λ c κs. search needs)
+    (λ c κs. search needs) (λ c. search needs) returns)

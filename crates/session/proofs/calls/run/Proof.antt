@@ -9,28 +9,43 @@ use Rattle.session.proofs.calls.run.Tie as tie
 
 returns : tie.Need-returns
 returns c =
-    let line = c .before .before .before in
-    let told = line .before .before .before .before in
-    let ran = told .before .before .before .before .before .before .before .run in
+    let at-refused-line = c .before .before .before in
+    let at-refusal-number = at-refused-line .before in
+    let at-answer = at-refusal-number .before .before .before in
+    let at-run = at-answer .before .before .before .before .before .before .before in
+    let ran = at-run .run in
     rw (c .left .ensures .0, c .left .ensures .1)
     (record {
-      text = same (line .refused-line .ensures .0) (run-refused (ran .result .answer) _ _ (ran .ensures) (told .answer .given .1) (line .before .refusal-number .ensures));
+      text = same (at-refused-line .refused-line .ensures .0) (run-refused (ran .result .answer) _ _ (ran .ensures) (at-answer .answer .given .1) (at-refusal-number .refusal-number .ensures));
       state = ap (λ (o : RunOutcome). o .state) (ran .ensures);
     })
 
 same-length-4 : tie.Need-same-length-4
-same-length-4 c = c .before .before .before .before .before .before .before .before .before .before .before .before .before .before .before .before .before .run .kept .1 .0
+same-length-4 c =
+    let at-numbers-line-arg = c .before .before .before .before .before .before .before in
+    let at-slice-known5 = at-numbers-line-arg .before .before .before .before .before .before .before in
+    let at-run = at-slice-known5 .before .before .before .before in
+    at-run .run .kept .1 .0
+
+same-length-5 : tie.Need-same-length-5
+same-length-5 c =
+    let at-numbers-line-arg = c .before .before .before .before .before .before .before in
+    let at-slice-known5 = at-numbers-line-arg .before .before .before .before .before .before .before in
+    let at-run = at-slice-known5 .before .before .before .before in
+    at-run .run .kept .1 .1 .0
 
 returns-2 : tie.Need-returns-2
 returns-2 c =
-    let line = c .before .before .before in
-    let detail = line .before .before .before .before in
-    let told = detail .before .before .before in
-    let ran = told .before .before .before .before .before .before .before .run in
+    let at-numbers-line = c .before .before .before in
+    let at-stop-detail = at-numbers-line .before .before .before .before .before in
+    let at-stop-number = at-stop-detail .before in
+    let at-answer2 = at-stop-number .before .before in
+    let at-run = at-answer2 .before .before .before .before .before .before .before in
+    let ran = at-run .run in
     rw (c .left2 .ensures .0, c .left2 .ensures .1)
     (record {
-      text = same (line .numbers-line .ensures)
-          (run-ran (ran .result .answer) _ _ (ran .ensures) (told .answer2 .given .1) (detail .before .stop-number .ensures) (detail .stop-detail .ensures));
+      text = same (at-numbers-line .numbers-line .ensures)
+          (run-ran (ran .result .answer) _ _ (ran .ensures) (at-answer2 .answer2 .given .1) (at-stop-number .stop-number .ensures) (at-stop-detail .stop-detail .ensures));
       state = ap (λ (o : RunOutcome). o .state) (ran .ensures);
     })
 
@@ -39,5 +54,5 @@ run-spec =
     tie.close
     (tie.spec (λ c κs. search needs) (λ c. search needs) (λ c κs. search needs) (λ c κs. search needs) (λ c κs. search needs)
     (λ c. search needs) (λ c κs. search needs) (λ c κs. search needs) (λ c. search needs) (λ c. search needs)
-    (λ c κs. search needs) (λ c κs. search needs) (λ c. search needs) (λ c. search needs) (λ c. search needs) returns
-    same-length-4 (λ c. search needs) (λ c. search needs) returns-2)
+    (λ c. search needs) (λ c κs. search needs) (λ c κs. search needs) (λ c. search needs) (λ c. search needs)
+    (λ c. search needs) returns same-length-4 same-length-5 (λ c. search needs) returns-2)

@@ -11,12 +11,16 @@ use Rattle.session.proofs.calls.sum.Tie as tie
 
 returns : tie.Need-returns
 returns c =
-    let of-swap = c .before .before .before .before .before .before in
-    same (c .before .before .numbers-line .ensures)
-    (ap₂ (λ (m s : ℕ). numbersLine sumWord (m ∷ s ∷ [])) (of-swap .before .fnv1a .ensures) (of-swap .fnv1a2 .ensures))
+    let at-numbers-line = c .before .before .before in
+    let at-fnv1a2 = at-numbers-line .before .before .before .before .before in
+    let at-fnv1a = at-fnv1a2 .before in (
+      c .left .ensures .0,
+      rw (c .left .ensures .1)
+          (same (at-numbers-line .numbers-line .ensures) (ap₂ (λ (m s : ℕ). numbersLine sumWord (m ∷ s ∷ [])) (at-fnv1a .fnv1a .ensures) (at-fnv1a2 .fnv1a2 .ensures))),
+    )
 
 pub sum-spec : {M : Type 1} → statement M
 sum-spec =
     tie.close
-    (tie.spec (λ c κs. search needs) (λ c κs. search needs) (λ c. search needs) (λ c. search needs) (λ c κs. search needs)
-    (λ c. search needs) returns)
+    (tie.spec (λ c κs. search needs) (λ c κs. search needs) (λ c. search needs) (λ c. search needs) (λ c. search needs)
+    (λ c κs. search needs) (λ c κs. search needs) (λ c. search needs) returns)

@@ -8,15 +8,18 @@ use Rattle.session.proofs.calls.verdict_line.Tie as tie
 
 returns : tie.Need-returns
 returns c =
-    let told = c .before .before .before .before .before .before in
-    same (c .before .before .refused-line .ensures .0)
-    (verdict-refused (told .before .before .before .before .args .verdict) _ refl _ (told .verdict .given .1) (c .before .before .before .refusal-number .ensures))
+    let at-refused-line = c .before .before in
+    let at-refusal-number = at-refused-line .before in
+    let at-v = at-refusal-number .before .before .before in
+    let start = at-v .before .before .before .before .before in
+    same (at-refused-line .refused-line .ensures .0) (verdict-refused (start .args .v) _ refl _ (at-v .v .given .1) (at-refusal-number .refusal-number .ensures))
 
 returns-2 : tie.Need-returns-2
 returns-2 c =
-    let told = c .before .before .before .before in
-    same (c .before .before .word-line .ensures)
-    (verdict-granted (told .before .before .before .before .args .verdict) _ refl _ (told .enum-told .given .1))
+    let at-hex-line = c .before .before in
+    let at-enum-told = at-hex-line .before .before in
+    let start = at-enum-told .before .before .before .before .before in
+    same (at-hex-line .hex-line .ensures) (verdict-granted (start .args .v) _ refl _ (at-enum-told .enum-told .given .1))
 
 pub verdict-line-spec : {M : Type 1} → statement M
 verdict-line-spec =

@@ -1,104 +1,156 @@
 -- `step::step`: what the line asks for, by what the reader answered.
-use mathlib.Core.Path.{sym, ap, _∙_}
-use mathlib.Core.List.{List}
-use Prim.Native.Nat.{ℕ}
+use mathlib.Core.Path.{refl, sym, ap}
 use native.Mathlib.Omega.{arith}
-use Rattle.text.specs.Reading.{bytesOf}
+use lib.ListN.{length}
+use lib.Seq.{length-take-le}
 use Rattle.script.specs.Table.{callRow, changeRow}
-use Rattle.script.specs.declared.Line.{Line}
 use Rattle.script.proofs.Within.{line-known}
-use Rattle.session.specs.Desk.{desk, saidTo, changedBy, badAt, spokenBy, spoken, Tells}
-use Rattle.session.specs.declared.Standing.{Standing}
-use Rattle.session.proofs.Asked.{rest-is, length-rest, rest-keeps}
-use Rattle.session.proofs.Telling.{tells-as}
+use Rattle.text.specs.Text.{hexOf}
+use Rattle.text.proofs.Appending.{same}
+use Rattle.session.specs.Lines.{wordLine}
+use Rattle.session.proofs.Asked.{short-rest, rest-keeps, lent-long}
+use Rattle.session.proofs.Spelled.{word-short, word-spelled-at}
+use Rattle.session.proofs.Telling.{call-told, changed-told, bad-told}
 use borrow.Author.Needs.{needs}
 use Rattle.session.proofs.step.step.Statement.{statement}
 use Rattle.session.proofs.step.step.Tie as tie
 
-sub-call : tie.Need-sub-call
-sub-call c =
-    let r = c .before .before .before .before .before in line-known (c .before .before .before .before .before .before .before .before .before .before .args .line .now) (r .parse .ensures) (c .before .before .before .c .given .1) .0
+sub-digits : tie.Need-sub-digits
+sub-digits c =
+    let at-c = c .before in
+    let at-parse = at-c .before .before in
+    let start = at-parse .before .before .before .before .before .before in
+    line-known (start .args .line .now) (at-parse .parse .ensures) (at-c .c .given .1) .0
 
-part-call-start : tie.Need-part-call-start
-part-call-start c =
-    let r = c .before .before .before .before .before in line-known (c .before .before .before .before .before .before .before .before .before .before .args .line .now) (r .parse .ensures) (c .before .before .before .c .given .1) .0
+part-digits-start : tie.Need-part-digits-start
+part-digits-start c =
+    let at-c = c .before in
+    let at-parse = at-c .before .before in
+    let start = at-parse .before .before .before .before .before .before in
+    line-known (start .args .line .now) (at-parse .parse .ensures) (at-c .c .given .1) .0
 
-call-requires : tie.Need-call-requires
-call-requires c κs =
-    let r = c .before .before .before .before .before .before .before in
-    let s = c .before .before .before .before .before .before .before .before .before .before .before .before in
-    let l = s .args .line .now in
-    let g = c .before .before .before .before .before .c .given in
-    (s .pre .0, omega (arith, s .pre .1, length-rest l (g .0 .1 .0 .hex)), rest-keeps l (g .0 .1 .0 .hex) (callRow (g .0 .0)) (g .0 .1 .0) (line-known l (r .parse .ensures) (g .1) .1))
+slice-aggregate-answer : tie.Need-slice-aggregate-answer
+slice-aggregate-answer c =
+    let at-slice-known3 = c .before .before .before .before .before .before .before in
+    let start = at-slice-known3 .before .before .before .before in
+    let a = start .args in
+    lent-long (a .at .main) (a .main .now) 262144 (start .pre .0 .lent .main-fits) (start .pre .0 .room .main-long)
+
+slice-aggregate-answer-2 : tie.Need-slice-aggregate-answer-2
+slice-aggregate-answer-2 c =
+    let at-m = c .before .before .before .before .before .before .before in
+    let start = at-m .before .before .before .before .before in
+    let a = start .args in
+    lent-long (a .at .swap) (a .swap .now) 327680 (start .pre .0 .lent .swap-fits) (start .pre .0 .room .swap-long)
+
+answer-requires : tie.Need-answer-requires
+answer-requires c κs =
+    let at-c = c .before .before .before .before .before in
+    let at-parse = at-c .before .before in
+    let start = at-parse .before .before .before .before .before .before in
+    let l = start .args .line .now in
+    let g = at-c .c .given in
+    let n = g .0 .1 .0 in
+    (start .pre .0 .left, short-rest l (n .hex) (start .pre .1), rest-keeps l (n .hex) (callRow (g .0 .0)) n (line-known l (at-parse .parse .ensures) (g .1) .1))
 
 sub-change : tie.Need-sub-change
 sub-change c =
-    let r = c .before .before .before .before .before in line-known (c .before .before .before .before .before .before .before .before .before .before .args .line .now) (r .parse .ensures) (c .before .before .before .c2 .given .1) .0
+    let at-c2 = c .before .before .before in
+    let at-parse = at-c2 .before .before in
+    let start = at-parse .before .before .before .before .before .before in
+    line-known (start .args .line .now) (at-parse .parse .ensures) (at-c2 .c2 .given .1) .0
 
 part-change-start : tie.Need-part-change-start
 part-change-start c =
-    let r = c .before .before .before .before .before in line-known (c .before .before .before .before .before .before .before .before .before .before .args .line .now) (r .parse .ensures) (c .before .before .before .c2 .given .1) .0
+    let at-c2 = c .before .before .before in
+    let at-parse = at-c2 .before .before in
+    let start = at-parse .before .before .before .before .before .before in
+    line-known (start .args .line .now) (at-parse .parse .ensures) (at-c2 .c2 .given .1) .0
 
 change-requires : tie.Need-change-requires
 change-requires c κs =
-    let r = c .before .before .before .before .before .before .before in
-    let s = c .before .before .before .before .before .before .before .before .before .before .before .before in
-    let l = s .args .line .now in
-    let g = c .before .before .before .before .before .c2 .given in
-    (s .pre .0, rest-keeps l (g .0 .1 .0 .hex) (changeRow (g .0 .0)) (g .0 .1 .0) (line-known l (r .parse .ensures) (g .1) .1))
+    let at-c2 = c .before .before .before .before in
+    let at-parse = at-c2 .before .before in
+    let start = at-parse .before .before .before .before .before .before in
+    let l = start .args .line .now in
+    let g = at-c2 .c2 .given in
+    let n = g .0 .1 .0 in
+    (start .pre .0 .lent, start .pre .0 .room .main-long, start .pre .0 .room .swap-long, rest-keeps l (n .hex) (changeRow (g .0 .0)) n (line-known l (at-parse .parse .ensures) (g .1) .1))
 
-cast-bad : tie.Need-cast-bad
-cast-bad c =
-    let r = c .before .before .before in
-    let s = r .before .before .before .before .before in
-    omega (arith, s .pre .1, line-known (s .args .line .now) (r .parse .ensures) (c .before .column .given .1))
+slice-aggregate-hex-line : tie.Need-slice-aggregate-hex-line
+slice-aggregate-hex-line c =
+    let at-find = c .before .before in
+    let at-change-arg2 = at-find .before .before .before .before .before .before .before in
+    let at-slice-known3 = at-change-arg2 .before .before .before .before .before .before .before in
+    let start = at-slice-known3 .before .before .before .before in
+    sym (length-take-le (at-find .find .result) (start .args .line .now) (omega (arith, at-find .find .ensures .1)))
+
+hex-line-requires : tie.Need-hex-line-requires
+hex-line-requires c κs =
+    let at-find = c .before .before .before in
+    let at-change-arg2 = at-find .before .before .before .before .before .before .before in
+    let at-c2 = at-change-arg2 .before .before .before in
+    let at-parse = at-c2 .before .before in
+    let start = at-parse .before .before .before .before .before .before in
+    let g = at-c2 .c2 .given in
+    let word = word-spelled-at (start .args .line .now) (at-parse .parse .ensures) (g .0 .0) (g .0 .1 .0) (g .1) (at-find .find .result) (at-find .find .ensures .0) in
+    omega (arith, ap length word, word-short (g .0 .0), start .pre .0 .left)
+
+cast-t52 : tie.Need-cast-t52
+cast-t52 c =
+    let at-column = c .before in
+    let at-parse = at-column .before .before in
+    let start = at-parse .before .before .before .before .before .before in
+    omega (arith, start .pre .1, line-known (start .args .line .now) (at-parse .parse .ensures) (at-column .column .given .1))
 
 returns : tie.Need-returns
-unfolding spoken spokenBy
 returns c =
-    let r = c .before .before .before .before .before .before .before .before .before .before .before .before .before .before in
-    let s = c .before .before .before .before .before .before .before .before .before .before .before .before .before .before .before .before .before .before .before in
-    let a = s .args in
-    let d = desk (a .at) (a .main .now) (a .swap .now) in
-    let g = c .before .before .before .before .before .before .before .before .before .before .before .before .c .given in (
-      tells-as (c .before .before .before .before .before .before .call .ensures .0)
-          (ap (λ (l : List ℕ). saidTo (g .0 .0) (g .0 .1 .0) (bytesOf l) d) (rest-is (a .line .now) (g .0 .1 .0 .hex))
-          ∙ ap (λ (z : Line). spokenBy z (a .number) (a .line .now) d) (sym (g .1) ∙ r .parse .ensures)),
-      c .before .before .before .before .before .before .call .ensures .1,
-    )
+    let at-main = c .before .before .before .before .before .before .before in
+    let at-answer = at-main .before in
+    let at-c = at-answer .before .before .before .before .before .before in
+    let at-parse = at-c .before .before in
+    let start = at-parse .before .before .before .before .before .before in
+    let a = start .args in
+    let g = at-c .c .given in
+    call-told (a .number) (a .line .now) (a .at) (a .main .now) (a .swap .now) (at-parse .parse .ensures) (g .0 .0) (g .0 .1 .0) (g .1)
+    (c .told .ensures) (at-answer .answer .ensures) (start .pre .0 .lent)
 
 returns-2 : tie.Need-returns-2
-unfolding spoken spokenBy
+unfolding hexOf
 returns-2 c =
-    let r = c .before .before .before .before .before .before .before .before .before .before .before .before .before .before in
-    let s = c .before .before .before .before .before .before .before .before .before .before .before .before .before .before .before .before .before .before .before in
-    let a = s .args in
-    let d = desk (a .at) (a .main .now) (a .swap .now) in
-    let g = c .before .before .before .before .before .before .before .before .before .before .before .before .c2 .given in (
-      tells-as (c .before .before .before .before .before .before .change .ensures .0)
-          (ap (λ (l : List ℕ). changedBy (g .0 .0) (g .0 .1 .0) (bytesOf l) d) (rest-is (a .line .now) (g .0 .1 .0 .hex))
-          ∙ ap (λ (z : Line). spokenBy z (a .number) (a .line .now) d) (sym (g .1) ∙ r .parse .ensures)),
-      c .before .before .before .before .before .before .change .ensures .1,
+    let at-hex-line = c .before .before in
+    let at-find = at-hex-line .before .before .before .before in
+    let at-change = at-find .before .before .before .before .before in
+    let at-c2 = at-change .before .before .before .before .before in
+    let at-parse = at-c2 .before .before in
+    let start = at-parse .before .before .before .before .before .before in
+    let a = start .args in
+    let g = at-c2 .c2 .given in
+    let word = word-spelled-at (a .line .now) (at-parse .parse .ensures) (g .0 .0) (g .0 .1 .0) (g .1) (at-find .find .result) (at-find .find .ensures .0) in
+    let left = at-change .change .ensures in (
+      changed-told (a .number) (a .line .now) (a .at) (a .main .now) (a .swap .now) (at-parse .parse .ensures) (g .0 .0) (g .0 .1 .0) (g .1)
+          (record { desk-is = left .0; text = same (at-hex-line .hex-line .ensures) (ap wordLine word); goes = refl }),
+      left .1,
     )
 
 returns-3 : tie.Need-returns-3
-unfolding spoken spokenBy
 returns-3 c =
-    let r = c .before .before .before .before .before .before .before in
-    let s = c .before .before .before .before .before .before .before .before .before .before .before .before in
-    let a = s .args in
-    let d = desk (a .at) (a .main .now) (a .swap .now) in
-    let told = c .before .before .bad .ensures in
-    let said : Tells _ _ _ _ _ _ (badAt (a .number) (c .before .before .before .before .before .column .given .0 .0) d) =
-    record { desk-is = ap (λ (x : Standing). desk x (a .main .now) (a .swap .now)) (told .0); text = told .1; goes = told .2 } in (
-      tells-as said (ap (λ (z : Line). spokenBy z (a .number) (a .line .now) d) (sym (c .before .before .before .before .before .column .given .1) ∙ r .parse .ensures)),
-      rw (told .0) (record { main-fits = s .pre .0 .lent .main-fits; swap-fits = s .pre .0 .lent .swap-fits }),
-    )
+    let at-numbers-line = c .before .before .before in
+    let at-column = at-numbers-line .before .before .before .before .before .before in
+    let at-parse = at-column .before .before in
+    let start = at-parse .before .before .before .before .before .before in
+    let a = start .args in
+    let g = at-column .column .given in
+    bad-told (a .number) (a .line .now) (a .at) (a .main .now) (a .swap .now) (at-parse .parse .ensures) (g .0 .0) (g .1)
+    (c .told2 .ensures) (at-numbers-line .numbers-line .ensures) (start .pre .0 .lent)
 
 pub step-spec : {M : Type 1} → statement M
 step-spec =
     tie.close
-    (tie.spec (λ c κs. search needs) (λ c. search needs) sub-call part-call-start (λ c. search needs) call-requires
-    (λ c. search needs) sub-change part-change-start (λ c. search needs) change-requires (λ c. search needs) cast-bad
-    (λ c κs. search needs) (λ c. search needs) (λ c. search needs) (λ c. search needs) returns (λ c. search needs)
-    (λ c. search needs) (λ c. search needs) returns-2 (λ c. search needs) returns-3)
+    (tie.spec (λ c κs. search needs) (λ c. search needs) sub-digits part-digits-start (λ c. search needs) (λ c. search needs)
+    slice-aggregate-answer (λ c. search needs) slice-aggregate-answer-2 answer-requires (λ c κs. search needs)
+    (λ c. search needs) sub-change part-change-start (λ c. search needs) change-requires (λ c κs. search needs)
+    slice-aggregate-hex-line (λ c. search needs) hex-line-requires (λ c. search needs) cast-t52 (λ c. search needs)
+    (λ c. search needs) (λ c. search needs) (λ c κs. search needs) (λ c κs. search needs) (λ c. search needs)
+    (λ c. search needs) (λ c. search needs) returns (λ c. search needs) (λ c. search needs) (λ c. search needs) returns-2
+    (λ c. search needs) returns-3)

@@ -1,4 +1,5 @@
 -- Laws that the proofs of the functions cite.
-pub mod Bytes
+pub mod Where
 pub mod Parts
+pub mod Transfers
 pub mod Leans

@@ -16,14 +16,12 @@ pub fn page_part<'a>(s: Shape, main: &'a [u8], swap: &'a [u8], page: VirtualPage
     ensures { λ r. ⌜ PartOf (pageHome s (main .entry) (swap .entry) page)
         (pagePart s (memory (now (main .entry)) (now (swap .entry))) page) r ⌝ }
 {
-    match home::home_of(s, main, page) {
-        Home::Main(p) => {
-            let start = pages::main_at(p, 0);
+    match home::home_of(s, main, pages::first_va(page)) {
+        Home::Main(start) => {
             let end = start + 4096;
             &main[start..end]
         }
-        Home::Swap(p) => {
-            let start = pages::swap_at(p, 0);
+        Home::Swap(start) => {
             let end = start + 4096;
             &swap[start..end]
         }

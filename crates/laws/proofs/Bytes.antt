@@ -9,7 +9,7 @@ use native.Mathlib.Numerals.{add-one, add-two, add-three}
 use lib.Arith.{mod-mul}
 use lib.Dec.{lit<}
 use lib.ListN.{length, getD, set, take, drop, length-set, List·getD-append, length-append, length-take, length-drop}
-use lib.Seq.{getD-set-same, getD-set-other, getD-append-add, getD-take, getD-drop, length-take-le, take-at, drop-at, ext-getD}
+use lib.Seq.{getD-set-same, getD-set-other, getD-append-add, getD-take, getD-drop, length-take-le, take-at, drop-at}
 use Rattle.model.specs.Bytes.{number, store, page, withPage}
 use Rattle.laws.specs.Named.{Off}
 
@@ -122,13 +122,6 @@ module _ (l : List ℕ) (p : ℕ) (b : List ℕ) (h : 4096 * p + 4096 ≤ length
           ∙ getD-past b _ _ (rw front (omega arith))
           ∙ getD-drop (4096 * p + 4096) l _ 0
           ∙ (rw (front, e) (ap (λ k. getD l k 0) (omega arith)))
-
--- a page is its bytes
-pub page-same : (l l′ : List ℕ) (p q : ℕ) → 4096 * p + 4096 ≤ length l → 4096 * q + 4096 ≤ length l′
-    → ((k : ℕ) → k < 4096 → getD l (4096 * p + k) 0 ≡ getD l′ (4096 * q + k) 0) → page l p ≡ page l′ q
-page-same l l′ p q h h′ f =
-    ext-getD 0 (page l p) (page l′ q) (length-page l p h ∙ sym (length-page l′ q h′))
-    (λ k r. let c : k < 4096 = omega (arith, length-page l p h) in getD-page l p k c ∙ f k c ∙ sym (getD-page l′ q k c))
 
 -- ---- as code reads and writes them
 pub number-two : (l : List ℕ) (i : ℕ) → number 2 l i ≡ getD l i 0 + 256 * getD l (i + 1) 0

@@ -29,6 +29,7 @@ pub mod Sentences
 pub mod Formed
 pub mod Fresh
 pub mod Poke
+pub mod Border
 pub mod Host
 pub mod Granted
 pub mod Again

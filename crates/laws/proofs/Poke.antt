@@ -17,7 +17,7 @@ use Rattle.model.specs.declared.Shape.{Shape}
 use Rattle.model.specs.declared.FrameBook.{FrameBook}
 use Rattle.model.specs.declared.VirtualPage.{VirtualPage}
 use Rattle.laws.proofs.Attempt.{seated-over}
-use Rattle.laws.specs.Good.{Fit, SwapLong, Seated}
+use Rattle.laws.specs.Good.{Fit, SwapLong, Seated, Safe}
 use Rattle.laws.proofs.Choice.{length-below, below-same}
 use Rattle.laws.specs.Named.{Off}
 use Rattle.laws.proofs.Bytes.{number-same}
@@ -32,7 +32,7 @@ pub record Kept (s : Shape) (m m′ : Memory) : Type 0 where
   pub off : (j : ℕ) → Off (4096 * s .abase) (4096 * s .frames) j → getD (m′ .main) j 0 ≡ getD (m .main) j 0
 
 module _ (s : Shape) (m m′ : Memory) (fit : Fit s (length (m .main))) (k : Kept s m m′) where
-  kept-entry : (x : VirtualPage) → x .0 < s .ptl → entry s (m′ .main) x ≡ entry s (m .main) x
+  pub kept-entry : (x : VirtualPage) → x .0 < s .ptl → entry s (m′ .main) x ≡ entry s (m .main) x
   unfolding entry
   kept-entry x h =
       number-same 4 (m′ .main) (m .main) (entryAt s x) (entryAt s x)
@@ -47,9 +47,17 @@ module _ (s : Shape) (m m′ : Memory) (fit : Fit s (length (m .main))) (k : Kep
   pub kept-seated : (b : FrameBook) → Seated s b (m .main) → Seated s b (m′ .main)
   kept-seated b g = seated-over s b (m .main) (m′ .main) kept-entry g
 
+  -- a valid entry still names a frame
+  pub kept-safe : Safe s (m .main) → Safe s (m′ .main)
+  kept-safe safe = record {
+    fit = kept-fit;
+    framed = λ x h v.
+        subst⁻¹ (λ (e : ℕ). (s .abase ≤ ppx e .0) × (ppx e .0 < s .abase + s .frames)) (kept-entry x h)
+        (safe .framed x h (ap valid (sym (kept-entry x h)) ∙ v));
+  }
+
 -- ---- one byte
-module _ (s : Shape) (b : FrameBook) (m : Memory) (fit : Fit s (length (m .main))) (whole : SwapLong s (length (m .swap))) (g : Seated s b (m .main))
-    (va x : ℕ) (inside : pageOf va .0 < s .ptl) where
+module _ (s : Shape) (m : Memory) (va x : ℕ) where
   -- where the page is in a frame, and where it is in swap
   abbrev in-main : ℕ
   in-main = mainAt (ppx (entry s (m .main) (pageOf va))) (offset va)
@@ -57,19 +65,13 @@ module _ (s : Shape) (b : FrameBook) (m : Memory) (fit : Fit s (length (m .main)
   abbrev in-swap : ℕ
   in-swap = swapAt (swapOf s (pageOf va)) (offset va)
 
-  poke-here : valid (entry s (m .main) (pageOf va)) ≡ true → poke s m va x ≡ record { main = set (m .main) in-main x; swap = m .swap }
+  pub poke-here : valid (entry s (m .main) (pageOf va)) ≡ true → poke s m va x ≡ record { main = set (m .main) in-main x; swap = m .swap }
   unfolding poke
   poke-here v = rw (poke, v)
 
-  poke-away : valid (entry s (m .main) (pageOf va)) ≡ false → poke s m va x ≡ record { main = m .main; swap = set (m .swap) in-swap x }
+  pub poke-away : valid (entry s (m .main) (pageOf va)) ≡ false → poke s m va x ≡ record { main = m .main; swap = set (m .swap) in-swap x }
   unfolding poke
   poke-away v = rw (poke, v)
-
-  framed : valid (entry s (m .main) (pageOf va)) ≡ true → (4096 * s .abase ≤ in-main) × (in-main < 4096 * (s .abase + s .frames))
-  framed v =
-      let f : (s .abase ≤ ppx (entry s (m .main) (pageOf va)) .0) × (ppx (entry s (m .main) (pageOf va)) .0 < s .abase + s .frames)
-      = in-frames s b (m .main) g (pageOf va) inside v in
-      (omega arith, omega arith)
 
   -- the two cases
   by-page : (P : Memory → Type 0)
@@ -82,34 +84,55 @@ module _ (s : Shape) (b : FrameBook) (m : Memory) (fit : Fit s (length (m .main)
       pick true v = subst⁻¹ P (poke-here v) (here v)
       pick false v = subst⁻¹ P (poke-away v) (away v)
 
-  pub poke-kept : Kept s m (poke s m va x)
-  poke-kept =
-      by-page (Kept s m)
-      (λ v. record {
-        main-long = length-set (m .main) in-main x;
-        swap-long = refl;
-        off = λ j o. getD-set-other (m .main) in-main j x 0 (λ e. omega (arith, framed v, o (omega (arith, framed v))));
-      })
-      (λ v. record { main-long = refl; swap-long = length-set (m .swap) in-swap x; off = λ j o. refl })
+  module _ (safe : Safe s (m .main)) (inside : pageOf va .0 < s .ptl) where
+    framed : valid (entry s (m .main) (pageOf va)) ≡ true → (4096 * s .abase ≤ in-main) × (in-main < 4096 * (s .abase + s .frames))
+    framed v =
+        let f : (s .abase ≤ ppx (entry s (m .main) (pageOf va)) .0) × (ppx (entry s (m .main) (pageOf va)) .0 < s .abase + s .frames)
+        = safe .framed (pageOf va) inside v in
+        (omega arith, omega arith)
+
+    pub poke-kept : Kept s m (poke s m va x)
+    poke-kept =
+        by-page (Kept s m)
+        (λ v. record {
+          main-long = length-set (m .main) in-main x;
+          swap-long = refl;
+          off = λ j o. getD-set-other (m .main) in-main j x 0 (λ e. omega (arith, framed v, o (omega (arith, framed v))));
+        })
+        (λ v. record { main-long = refl; swap-long = length-set (m .swap) in-swap x; off = λ j o. refl })
+
+module _ (s : Shape) (b : FrameBook) (m : Memory) (fit : Fit s (length (m .main))) (whole : SwapLong s (length (m .swap))) (g : Seated s b (m .main))
+    (va x : ℕ) (inside : pageOf va .0 < s .ptl) where
+  safe : Safe s (m .main)
+  safe = record { fit = fit; framed = in-frames s b (m .main) g }
+
+  abbrev at-main : ℕ
+  at-main = in-main s m va x
+
+  abbrev at-swap : ℕ
+  at-swap = in-swap s m va x
+
+  table-kept : (y : VirtualPage) → y .0 < s .ptl → entry s (poke s m va x .main) y ≡ entry s (m .main) y
+  table-kept = kept-entry s m (poke s m va x) fit (poke-kept s m va x safe inside)
 
   -- the byte itself, and another
   poke-same : flatByte s (poke s m va x) va ≡ x
   poke-same =
-      by-page (λ m′. entry s (m′ .main) (pageOf va) ≡ entry s (m .main) (pageOf va) → flatByte s m′ va ≡ x)
-      (λ v e. flat-here s _ va (ap valid e ∙ v) ∙ ap (λ (k : ℕ). getD (set (m .main) in-main x) (mainAt (ppx k) (offset va)) 0) e
-      ∙ getD-set-same (m .main) in-main x 0 (omega (arith, framed v, fit .frames-in, fit .main-long)))
-      (λ v e. flat-away s _ va (ap valid e ∙ v) ∙ getD-set-same (m .swap) in-swap x 0 (omega (arith, whole, inside)))
-      (kept-entry s m (poke s m va x) fit poke-kept (pageOf va) inside)
+      by-page s m va x (λ m′. entry s (m′ .main) (pageOf va) ≡ entry s (m .main) (pageOf va) → flatByte s m′ va ≡ x)
+      (λ v e. flat-here s _ va (ap valid e ∙ v) ∙ ap (λ (k : ℕ). getD (set (m .main) at-main x) (mainAt (ppx k) (offset va)) 0) e
+      ∙ getD-set-same (m .main) at-main x 0 (omega (arith, framed s m va x safe inside v, fit .frames-in, fit .main-long)))
+      (λ v e. flat-away s _ va (ap valid e ∙ v) ∙ getD-set-same (m .swap) at-swap x 0 (omega (arith, whole, inside)))
+      (table-kept (pageOf va) inside)
 
   poke-other : (j : ℕ) → j < 4096 * s .ptl → (j ≡ va → ⊥) → flatByte s (poke s m va x) j ≡ flatByte s m j
   poke-other j h n =
-      by-page (λ m′. entry s (m′ .main) (pageOf j) ≡ entry s (m .main) (pageOf j) → flatByte s m′ j ≡ flatByte s m j)
-      (λ v e. flat-same s m _ j e (λ w. getD-set-other (m .main) in-main (mainAt (ppx (entry s (m .main) (pageOf j))) (offset j)) x 0 (main-apart v w)) (λ w. refl))
-      (λ v e. flat-same s m _ j e (λ w. refl) (λ w. getD-set-other (m .swap) in-swap (swapAt (swapOf s (pageOf j)) (offset j)) x 0 (λ q. n (omega (arith, q)))))
-      (kept-entry s m (poke s m va x) fit poke-kept (pageOf j) (omega arith))
+      by-page s m va x (λ m′. entry s (m′ .main) (pageOf j) ≡ entry s (m .main) (pageOf j) → flatByte s m′ j ≡ flatByte s m j)
+      (λ v e. flat-same s m _ j e (λ w. getD-set-other (m .main) at-main (mainAt (ppx (entry s (m .main) (pageOf j))) (offset j)) x 0 (main-apart v w)) (λ w. refl))
+      (λ v e. flat-same s m _ j e (λ w. refl) (λ w. getD-set-other (m .swap) at-swap (swapAt (swapOf s (pageOf j)) (offset j)) x 0 (λ q. n (omega (arith, q)))))
+      (table-kept (pageOf j) (omega arith))
     where
       main-apart : valid (entry s (m .main) (pageOf va)) ≡ true → valid (entry s (m .main) (pageOf j)) ≡ true
-          → mainAt (ppx (entry s (m .main) (pageOf j))) (offset j) ≡ in-main → ⊥
+          → mainAt (ppx (entry s (m .main) (pageOf j))) (offset j) ≡ at-main → ⊥
       main-apart v w q =
           let c : pageOf j ≡ pageOf va = apart s b (m .main) g (pageOf j) (pageOf va) (omega arith) inside w v (omega (arith, q)) in
           n (omega (arith, q, ap (λ (z : VirtualPage). z .0) c))

@@ -1,4 +1,4 @@
-// The right to a page: byte by byte for a transfer, and once for a view.
+// The right to a page: to those of the first and the last byte for a transfer, and to one for a view.
 use model::Access;
 use model::Shape;
 use model::VirtualPage;
@@ -21,19 +21,19 @@ fn legal(a: Access) -> bool
     }
 }
 
-// "all pages need r, or w": a byte is tested only where the one before it is permitted, so that no address goes round.
+// "all pages need r, or w": n bytes lie in the pages of the first and of the last of them.
 pub(crate) fn permitted(s: Shape, main: &[u8], writing: bool, va: u32, n: usize) -> bool
     requires { ⌜ Fit s (length (now main)) × (n ≤ 256) ⌝ }
     ensures { λ r. ⌜ r ≡ calls.permitted writing s (now (main .entry)) va n ⌝ }
 {
-    let mut i = 0;
-    while i < n {
-        if !legal(table::locate(s, main, va + (i as u32), writing)) {
-            return false;
-        }
-        i += 1;
+    if n == 0 {
+        return true;
     }
-    true
+    if !legal(table::locate(s, main, va, writing)) {
+        return false;
+    }
+    let last = va + ((n - 1) as u32);
+    legal(table::locate(s, main, last, writing))
 }
 
 // "a readable page": in the table, and its entry grants reading.

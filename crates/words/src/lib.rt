@@ -59,7 +59,7 @@ pub fn put_word(m: &mut [u8], at: usize, x: u32)
 }
 
 // Copies `from` over `to`, which is as long.
-fn copy(from: &[u8], to: &mut [u8])
+pub fn copy(from: &[u8], to: &mut [u8])
     requires { ⌜ length (now from) ≡ length (now to) ⌝ }
     ensures { λ _. ⌜ now (to .exit) ≡ now (from .entry) ⌝ }
 {

@@ -3,7 +3,7 @@ use Prim.Native.Nat.{_-_}
 use native.Mathlib.Omega.{arith}
 use lib.ListN.{length}
 use borrow.Author.Needs.{needs}
-use Rattle.host.proofs.Bytes.{Writing, writing-start, writing-next, writing-done}
+use Rattle.host.proofs.Transfers.{Writing, writing-start, writing-next, writing-done}
 use Rattle.host.proofs.transfer.write_bytes.Statement.{statement}
 use Rattle.host.proofs.transfer.write_bytes.Tie as tie
 
@@ -16,29 +16,35 @@ abbrev μ-loop : tie.MeasureT-loop
 loop-holds : tie.Need-loop-holds Inv-loop μ-loop
 loop-holds c = writing-start _ _ _ _ _ (c .before .before .before .pre .0)
 
-cast-poke : tie.Need-cast-poke Inv-loop μ-loop
-cast-poke c =
-    let turn = c .before .before .before in
+cast-at : tie.Need-cast-at Inv-loop μ-loop
+cast-at c =
+    let turn = c .before in
     let pre = turn .before .before .before .before .pre in
-    omega (arith, pre .1 (turn .loop .i) (search needs), pre .0 .safe .fit .ptl-most)
+    omega (arith, pre .1 (turn .loop .i) (omega arith), pre .0 .safe .fit .ptl-most)
 
-add-poke : tie.Need-add-poke Inv-loop μ-loop
-add-poke c =
-    let turn = c .before .before .before in
+add-at : tie.Need-add-at Inv-loop μ-loop
+add-at c =
+    let turn = c .before in
     let pre = turn .before .before .before .before .pre in
-    omega (arith, pre .1 (turn .loop .i) (search needs), pre .0 .safe .fit .ptl-most)
+    omega (arith, pre .1 (turn .loop .i) (omega arith), pre .0 .safe .fit .ptl-most)
 
-poke-requires : tie.Need-poke-requires Inv-loop μ-loop
-poke-requires c κs =
-    let turn = c .before .before .before .before in
-    (turn .loop .inv .reach, turn .before .before .before .before .pre .1 _ (search needs))
+write-part-requires : tie.Need-write-part-requires Inv-loop μ-loop
+write-part-requires c κs =
+    let cut = c .before .before .before in
+    let turn = cut .before .before in
+    let inside = turn .before .before .before .before .pre .1 (turn .loop .i) (omega arith) in
+    (turn .loop .inv .reach, omega (arith, inside), omega (arith, cut .within .ensures))
+
+loop-less : tie.Need-loop-less Inv-loop μ-loop
+loop-less c = omega (arith, c .before .before .before .before .before .before .before .before .within .ensures)
 
 loop-again : tie.Need-loop-again Inv-loop μ-loop
 loop-again c =
-    let poked = c .before .before .before .before in
-    let turn = poked .before .before .before .before .before in
-    writing-next _ _ _ _ _ _ _ _ (turn .loop .inv) (search needs) (turn .before .before .before .before .pre .1 _ (search needs)) _ _
-    (poked .poke .ensures)
+    let wrote = c .before .before .before .before in
+    let cut = wrote .before .before .before .before in
+    let turn = cut .before .before in
+    writing-next _ _ _ _ _ _ _ _ (turn .loop .inv) (turn .before .before .before .before .pre .1) _ (omega (arith, cut .within .ensures)) _ (omega arith) _ _
+    (wrote .write-part .ensures)
 
 returns : tie.Need-returns Inv-loop μ-loop
 returns c = writing-done _ _ _ _ _ _ _ _ (c .before .loop .inv) (search needs)
@@ -46,5 +52,6 @@ returns c = writing-done _ _ _ _ _ _ _ _ (c .before .loop .inv) (search needs)
 pub write-bytes-spec : {M : Type 1} → statement M
 write-bytes-spec =
     tie.close
-    (tie.spec Inv-loop μ-loop loop-holds cast-poke add-poke (λ c. search needs) poke-requires (λ c. search needs)
-    (λ c. search needs) loop-again (λ c. search needs) (λ c. search needs) returns)
+    (tie.spec Inv-loop μ-loop loop-holds cast-at add-at (λ c. search needs) (λ c κs. search needs) (λ c. search needs)
+    (λ c. search needs) (λ c. search needs) (λ c. search needs) write-part-requires loop-less loop-again (λ c. search needs)
+    (λ c. search needs) returns)

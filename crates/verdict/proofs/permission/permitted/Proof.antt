@@ -1,44 +1,35 @@
--- `permission::permitted`: the first i bytes are permitted.
-use mathlib.Core.Bool.{true}
-use mathlib.Core.Path.{_≡_, ap, _∙_}
-use Prim.Native.Nat.{_≤_, _+_, _-_}
+-- `permission::permitted`: no byte is asked for, the first is refused, or the last decides.
+use mathlib.Core.Path.{ap, _∙_}
 use native.Mathlib.Omega.{arith}
 use borrow.Author.Needs.{needs}
-use Rattle.model.specs.Calls.{permitted}
-use Rattle.model.specs.Translate.{translate, legal}
-use Rattle.model.specs.Choice.{everyBelow}
-use Rattle.sound.proofs.Loops.{none-yet, one-more, fails, all-passed, failed, passed}
-use Rattle.verdict.proofs.Rights.{next-fits}
+use Rattle.model.specs.Translate.{legal}
+use Rattle.verdict.proofs.Rights.{permitted-none, first-refused, first-inside, by-last}
 use Rattle.verdict.proofs.permission.permitted.Statement.{statement}
 use Rattle.verdict.proofs.permission.permitted.Tie as tie
 
-abbrev Inv-loop : tie.InvT-loop
-Inv-loop s main writing va n i₀ i = (i ≤ n) × (everyBelow i (λ k. legal (translate s main writing (va + k))) ≡ true)
+returns : tie.Need-returns
+returns c = permitted-none _ _ _ _ _ (omega arith)
 
-abbrev μ-loop : tie.MeasureT-loop
-μ-loop s main writing va n i₀ i = n - i
+returns-2 : tie.Need-returns-2
+returns-2 c =
+    let first = c .before in
+    first-refused _ _ _ _ _ _ (first .legal .ensures ∙ ap legal (first .before .locate .ensures)) (omega arith) (c .if2 .taken)
 
-loop-holds : tie.Need-loop-holds Inv-loop μ-loop
-loop-holds c = (search needs, none-yet _)
+add-last : tie.Need-add-last
+add-last c =
+    let first = c .before in
+    let a = first .before .before .before .before .args in
+    omega (arith, first-inside _ _ _ _ (a .n) _ (first .legal .ensures ∙ ap legal (first .before .locate .ensures)) (c .if2 .left))
 
-add-locate : tie.Need-add-locate Inv-loop μ-loop
-add-locate c = omega (arith, next-fits _ _ _ _ (c .before .loop .i) (search needs) (search needs) (c .before .loop .inv .1))
-
-returns : tie.Need-returns Inv-loop μ-loop
-unfolding permitted
-returns c = fails _ _ _ (search needs) (failed _ _ (c .before .legal .ensures ∙ ap legal (c .before .before .locate .ensures)) (c .if1 .taken))
-
-loop-again : tie.Need-loop-again Inv-loop μ-loop
-loop-again c =
-    let asked = c .before .before in
-    (search needs, one-more _ _ (asked .before .before .loop .inv .1) (passed _ _ (c .before .legal .ensures ∙ ap legal (asked .locate .ensures)) (c .if1 .left)))
-
-returns-2 : tie.Need-returns-2 Inv-loop μ-loop
-unfolding permitted
-returns-2 c = all-passed _ _ _ (c .before .loop .inv .1) (search needs) (search needs)
+returns-3 : tie.Need-returns-3
+returns-3 c =
+    let last = c .before in
+    let first = last .before .before in
+    by-last _ _ _ _ _ _ (first .legal .ensures ∙ ap legal (first .before .locate .ensures)) (last .before .if2 .left) (omega arith) (search needs) _ (omega arith)
+    _ (c .legal2 .ensures ∙ ap legal (last .locate2 .ensures))
 
 pub permitted-spec : {M : Type 1} → statement M
 permitted-spec =
     tie.close
-    (tie.spec Inv-loop μ-loop loop-holds (λ c. search needs) add-locate (λ c κs. search needs) (λ c κs. search needs) returns
-    (λ c. search needs) (λ c. search needs) loop-again returns-2)
+    (tie.spec returns (λ c κs. search needs) (λ c κs. search needs) returns-2 (λ c. search needs) (λ c. search needs) add-last
+    (λ c κs. search needs) (λ c κs. search needs) returns-3)

@@ -1,40 +1,23 @@
-// What soundness says of the frame book alone.
-use model::FrameBook;
+// What soundness says of the frame book alone, by its numbers: b, hand, and B as lent words.
 ghost use mathlib.Core.Path.{_≡_};
-ghost use Prim.Native.Nat.{_≤_};
+ghost use mathlib.Core.List.{List};
+ghost use Prim.Native.Nat.{ℕ, _≤_};
+ghost use lib.ListN.{length};
 ghost use Rattle.model.specs.Sound as tests;
-
-// "B[0..b−1] are below ptl"
-pub fn held_in_table(ptl: u32, b: FrameBook) -> bool
-    requires { ⌜ b .used ≤ 32 ⌝ }
-    ensures { λ r. ⌜ r ≡ tests.heldInTable ptl b ⌝ }
-{
-    let n = b.used as usize;
-    let mut i = 0;
-    while i < n {
-        let x = b.held[i];
-        if x.0 >= ptl {
-            return false;
-        }
-        i += 1;
-    }
-    true
-}
+ghost use Rattle.book.specs.Numbers.{bookOf};
 
 // "all different (the check stops at the first equal pair)"
-pub fn all_different(b: FrameBook) -> bool
-    requires { ⌜ b .used ≤ 32 ⌝ }
-    ensures { λ r. ⌜ r ≡ tests.allDifferent b ⌝ }
+pub fn all_different(used: u32, held: &[u32]) -> bool
+    requires { ⌜ (used ≤ 32) × (length (now held) ≡ 32) ⌝ }
+    ensures { λ r. ⌜ ((hand : ℕ) → r ≡ tests.allDifferent (bookOf used hand (now (held .entry)))) ⌝ }
 {
-    let n = b.used as usize;
+    let n = used as usize;
     let mut different = true;
     let mut j = 0;
     'frames: while j < n {
         let mut i = 0;
         while i < j {
-            let x = b.held[i];
-            let y = b.held[j];
-            if x.0 == y.0 {
+            if held[i] == held[j] {
                 different = false;
                 break 'frames;
             }
@@ -45,28 +28,26 @@ pub fn all_different(b: FrameBook) -> bool
     different
 }
 
-// "B is 0 from b on"
-pub fn rest_zero(b: FrameBook) -> bool
-    requires { ⌜ b .used ≤ 32 ⌝ }
-    ensures { λ r. ⌜ r ≡ tests.restZero b ⌝ }
+// "B is 0 from b on": no word ends the loop early, so that it looks at several at once.
+pub fn rest_zero(used: u32, held: &[u32]) -> bool
+    requires { ⌜ (used ≤ 32) × (length (now held) ≡ 32) ⌝ }
+    ensures { λ r. ⌜ ((hand : ℕ) → r ≡ tests.restZero (bookOf used hand (now (held .entry)))) ⌝ }
 {
-    let mut i = b.used as usize;
+    let mut zero = true;
+    let mut i = used as usize;
     while i < 32 {
-        let x = b.held[i];
-        if x.0 != 0 {
-            return false;
-        }
+        zero = zero & (held[i] == 0);
         i += 1;
     }
-    true
+    zero
 }
 
 // "hand is 0 while b < a, else hand < a"
-pub fn hand_right(a: u32, b: FrameBook) -> bool
-    ensures { λ r. ⌜ r ≡ tests.handRight a b ⌝ }
+pub fn hand_right(a: u32, used: u32, hand: u32) -> bool
+    ensures { λ r. ⌜ ((held : List ℕ) → r ≡ tests.handRight a (bookOf used hand held)) ⌝ }
 {
-    if b.used < a {
-        return b.hand == 0;
+    if used < a {
+        return hand == 0;
     }
-    b.hand < a
+    hand < a
 }

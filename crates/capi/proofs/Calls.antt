@@ -1,20 +1,26 @@
 -- The ways out of each exported call, over plain variables: a slice of another length than said, or the model's own outcome.
-use mathlib.Core.Path.{_≡_, ap, _∙_}
+use mathlib.Core.Path.{_≡_, refl, sym, ap, _∙_}
+use mathlib.Core.Bool.{true}
 use mathlib.Core.List.{List}
 use Prim.Native.Nat.{ℕ}
 use lib.ListN.{length}
 use borrow.Author.Tests.{eq-eqb, ne-eqb}
-use Rattle.model.specs.State.{memory, state}
+use Rattle.model.specs.State.{State, memory, state}
 use Rattle.model.specs.Answers.{refusalNumber, verdictNumbers, runNumbers, imageNumbers}
-use Rattle.model.specs.Calls.{StateOutcome, ReplyOutcome, RunOutcome, runOutcome, runCall, readCall, writeCall, replyCall}
+use Rattle.model.specs.Calls.{StateOutcome, RunOutcome, runVerdict, runOutcome, runCall, hostVerdict, readCall, writeBy, writeCall, replyVerdict, replyCall}
 use Rattle.model.specs.Image.{loadCall, imageCall}
 use Rattle.model.specs.declared.Machine.{Machine}
+use Rattle.model.specs.declared.Refusal.{Refusal}
 use Rattle.model.specs.declared.Refusal.the-variants.{Bound}
 use Rattle.model.specs.declared.Verdict.{Verdict}
+use Rattle.model.specs.declared.Verdict.the-variants.{Granted, Refused}
 use Rattle.model.specs.declared.RunAnswer.{RunAnswer}
+use Rattle.model.specs.declared.RunAnswer.the-variants.{NotRun}
 use Rattle.model.specs.declared.ImageAnswer.{ImageAnswer}
-use Rattle.record.specs.Words.{recordLength, machineOf, wordsOf}
+use Rattle.record.specs.Words.{recordLength, machineOf, wordsOf, withRegister}
+use Rattle.record.proofs.Words.{words-machine}
 use Rattle.capi.specs.Calls as calls
+use Rattle.capi.proofs.Refused.{run-refused, reply-refused}
 
 -- what the model's outcome leaves of the record and both memories
 module _ (m : Machine) (v : Verdict) (main swap : List ℕ) (r : ℕ) (er : r ≡ verdictNumbers v .refused) (w : List ℕ) (ew : w ≡ wordsOf m) where
@@ -44,6 +50,12 @@ module _ (words main swap : List ℕ) (limit : ℕ) (answer : List ℕ) where
         → record { returned = refusalNumber Bound; words = words; main = main; swap = swap; answer = answer } ≡ calls.run words main swap limit answer
     unfolding calls.run
     run-narrow n = simp (eq-eqb _ _ e, ne-eqb _ _ n)
+
+    pub run-not : length answer ≡ 4 → (m : Machine) → m ≡ machineOf words → (v : Verdict) → v ≡ runVerdict (state m main swap) limit
+        → (r : Refusal) → v ≡ Refused r → (n : ℕ) (w : List ℕ) → (n ≡ runNumbers (NotRun r) .verdict .refused) × (w ≡ calls.runWords (runNumbers (NotRun r)))
+        → record { returned = n; words = words; main = main; swap = swap; answer = w } ≡ calls.run words main swap limit answer
+    run-not f m em v ev r h n w ew =
+        rw (ew .0, ew .1) (sym (run-refused words e r main swap limit answer f (ap (λ k. runVerdict (state k main swap) limit) (sym em) ∙ sym ev ∙ h)))
 
     pub run-whole : length answer ≡ 4 → (m : Machine) → m ≡ machineOf words
         → calls.ran (runCall (state m main swap) limit) ≡ calls.run words main swap limit answer
@@ -79,19 +91,35 @@ module _ (words main swap : List ℕ) (va : ℕ) (bytes : List ℕ) where
   unfolding calls.write
   write-whole e m em = rw em (simp (eq-eqb _ _ e))
 
+-- a host write leaves the record as it is
+same-machine : (p : State) (va : ℕ) (bytes : List ℕ) → writeCall p va bytes .state .machine ≡ p .machine
+unfolding writeCall
+same-machine p va bytes = by (hostVerdict true p va (length bytes))
+  where
+    by : (v : Verdict) → writeBy v p va bytes .state .machine ≡ p .machine
+    by Granted = refl
+    by (Refused r) = refl
+
+pub write-kept : (words : List ℕ) → length words ≡ recordLength → (p : State) → p .machine ≡ machineOf words → (va : ℕ) (bytes : List ℕ)
+    → (o : StateOutcome) → o ≡ writeCall p va bytes → words ≡ wordsOf (o .state .machine)
+write-kept words e p em va bytes o eo =
+    sym (words-machine words e) ∙ ap wordsOf (sym (ap (λ (z : StateOutcome). z .state .machine) eo ∙ same-machine p va bytes ∙ em))
+
 -- ---- reply
 module _ (words : List ℕ) (i v : ℕ) where
   pub reply-short : (length words ≡ recordLength → ⊥) → record { returned = refusalNumber Bound; words = words } ≡ calls.reply words i v
   unfolding calls.reply
   reply-short n = simp (ne-eqb _ _ n)
 
-  pub reply-whole : length words ≡ recordLength → (m : Machine) → m ≡ machineOf words → calls.replied (replyCall m i v) ≡ calls.reply words i v
-  unfolding calls.reply
-  reply-whole e m em = rw em (simp (eq-eqb _ _ e))
+  module _ (e : length words ≡ recordLength) (u : Verdict) (eu : u ≡ replyVerdict i) where
+    -- the code sets register k
+    pub reply-set : u ≡ Granted → (k : ℕ) → k ≡ i → (w : List ℕ) → w ≡ wordsOf (withRegister (machineOf words) k v)
+        → record { returned = 0; words = w } ≡ calls.reply words i v
+    unfolding calls.reply replyCall
+    reply-set h k is w ew = simp (eq-eqb _ _ e, ← eu, h, ew, is)
 
-pub reply-handed : (m : Machine) (v : Verdict) (r : ℕ) → r ≡ verdictNumbers v .refused → (w : List ℕ) → w ≡ wordsOf m
-    → (o : ReplyOutcome) → record { verdict = verdictNumbers v; machine = m } ≡ o → record { returned = r; words = w } ≡ calls.replied o
-reply-handed m v r er w ew o e = rw (er, ew) (ap calls.replied e)
+    pub reply-not : (r : Refusal) → u ≡ Refused r → (n : ℕ) → n ≡ refusalNumber r → record { returned = n; words = words } ≡ calls.reply words i v
+    reply-not r h n en = rw en (sym (reply-refused words e r i v (sym eu ∙ h)))
 
 -- ---- image
 module _ (file answer : List ℕ) where

@@ -1,7 +1,10 @@
 // The calls for hosts in C and Rust, on numbers and lent slices only: brenwythal.h says what each does. None asks anything of its
-// caller, and each names its complete outcome. The crate `record` says what the words of a record are.
+// caller, and each names its complete outcome. The crate `record` says what the words of a record are; they are written back only
+// where they may differ.
 mod answer_words;
 
+use model::RunAnswer;
+use model::Verdict;
 use model::VirtualPage;
 ghost use Rattle.capi.specs.Promises as promises;
 
@@ -49,11 +52,16 @@ pub extern "C" fn brenwythal_run(
     if answer.len() != 4 {
         return 1;
     }
-    let r = machine::run(record::machine_of(words), main, swap, limit);
-    let m = r.machine;
-    let a = r.answer;
-    record::put_machine(words, m);
-    answer_words::put_run(answer, a)
+    match verdict::run_verdict(record::machine_of(words), main, swap, limit) {
+        Verdict::Granted => {
+            let r = machine::run_granted(record::machine_of(words), main, swap, limit);
+            let m = r.machine;
+            let a = r.answer;
+            record::put_machine(words, m);
+            answer_words::put_run(answer, a)
+        }
+        Verdict::Refused(r) => answer_words::put_run(answer, RunAnswer::NotRun(r)),
+    }
 }
 
 // "Host read fills a lent buffer".
@@ -90,9 +98,7 @@ pub extern "C" fn brenwythal_write(
         return 1;
     }
     let h = machine::host_write(record::machine_of(words), main, swap, va, from);
-    let m = h.machine;
     let v = h.verdict;
-    record::put_machine(words, m);
     answers::verdict_number(v)
 }
 
@@ -131,11 +137,13 @@ pub extern "C" fn brenwythal_reply(words: &mut [u32], register: u32, value: u32)
     if words.len() != RECORD {
         return 1;
     }
-    let h = machine::reply(record::machine_of(words), register, value);
-    let m = h.machine;
-    let v = h.verdict;
-    record::put_machine(words, m);
-    answers::verdict_number(v)
+    match verdict::reply_verdict(register) {
+        Verdict::Granted => {
+            record::set_register(words, register, value);
+            0
+        }
+        Verdict::Refused(r) => answers::refusal_number(r),
+    }
 }
 
 // Reads a console image. The answer: "ptl, start and frames as written".

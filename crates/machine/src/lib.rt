@@ -1,5 +1,6 @@
 // The calls that a host makes on a machine: run, host read, host write, page view and reply. They ask nothing of their caller: each
-// takes the verdict on what it is handed, acts where nothing is refused, and names its complete outcome.
+// takes the verdict on what it is handed, acts where nothing is refused, and names its complete outcome. `run_granted` is `run` behind
+// its verdict, for a caller that took it.
 use host::transfer;
 use host::view;
 use model::Handed;
@@ -9,11 +10,9 @@ use model::RunResult;
 use model::Verdict;
 use model::VirtualPage;
 ghost use mathlib.Core.Path.{_≡_};
-ghost use Prim.Native.Nat.{_≤_};
 ghost use Rattle.model.specs.State.{state};
-ghost use Rattle.model.specs.Run.{run, instruction, uncounted};
-ghost use Rattle.laws.specs.Good.{Good};
 ghost use Rattle.model.specs.Calls as calls;
+ghost use Rattle.model.specs.declared.Verdict.the-variants as verdict;
 ghost use Rattle.model.specs.Promises as promises;
 
 // "Run returns the stop, a detail, instructions finished, pages loaded."
@@ -25,15 +24,15 @@ pub fn run(m: Machine, main: &mut [u8], swap: &mut [u8], limit: u32) -> RunResul
             machine: m,
             answer: RunAnswer::NotRun(r),
         },
-        Verdict::Granted => run_sound(m, main, swap, limit),
+        Verdict::Granted => run_granted(m, main, swap, limit),
     }
 }
 
-// The run of a machine that is not refused: the registers are lent to the engine from an array of their own.
-fn run_sound(m: Machine, main: &mut [u8], swap: &mut [u8], limit: u32) -> RunResult
-    requires { ⌜ Good (state m (now main) (now swap)) × (limit ≤ 1000000) ⌝ }
-    ensures { λ r. ⌜ calls.runOutcome (r .answer) (state (r .machine) (now (main .exit)) (now (swap .exit)))
-        ≡ calls.reported (run instruction limit (uncounted (state m (now (main .entry)) (now (swap .entry))))) ⌝ }
+// The run of a machine that is not refused: a host that keeps the record in words writes it back only where it ran. The registers are
+// lent to the engine from an array of their own.
+pub fn run_granted(m: Machine, main: &mut [u8], swap: &mut [u8], limit: u32) -> RunResult
+    requires { ⌜ calls.runVerdict (state m (now main) (now swap)) limit ≡ verdict.Granted ⌝ }
+    ensures { λ r. ⌜ promises.RunPromise (state m (now (main .entry)) (now (swap .entry))) limit r (now (main .exit)) (now (swap .exit)) ⌝ }
 {
     let s = m.shape;
     let b = m.book;

@@ -4,7 +4,7 @@ use model::Shape;
 use model::SwapPage;
 use model::VirtualPage;
 ghost use mathlib.Core.Path.{_≡_};
-ghost use Prim.Native.Nat.{_+_, _-_, _*_, _^_, _<_, _≤_};
+ghost use Prim.Native.Nat.{_+_, _*_, _^_, _<_, _≤_};
 ghost use lib.ListN.{length};
 ghost use Rattle.model.specs.Pages as rule;
 ghost use Rattle.model.specs.Table as entries;
@@ -49,14 +49,6 @@ pub fn frame_at(s: Shape, f: u32) -> MainPage
     ensures { λ r. ⌜ r ≡ rule.frameAt s f ⌝ }
 {
     MainPage(s.abase + f)
-}
-
-// The frame that main page p is, of those from abase on.
-pub fn frame_of(s: Shape, p: MainPage) -> u32
-    requires { ⌜ s .abase ≤ p .0 ⌝ }
-    ensures { λ r. ⌜ r ≡ p .0 - s .abase ⌝ }
-{
-    p.0 - s.abase
 }
 
 // "sbase counts pages".

@@ -1,10 +1,10 @@
 -- Laws of parts: words read from their places, pages and their numbers, and the whole record as its four parts.
 use mathlib.Core.Path.{_≡_, refl, sym, ap, _∙_}
-use mathlib.Core.List.{List, [], _++_, append-assoc, append-nil}
-use Prim.Native.Nat.{ℕ, _+_, _-_, _≤_, _<_}
+use mathlib.Core.List.{List, [], _∷_, _++_, append-assoc, append-nil}
+use Prim.Native.Nat.{ℕ, suc, _+_, _-_, _≤_, _<_}
 use native.Mathlib.Omega.{arith}
-use lib.ListN.{length, getD, take, drop, length-append, length-take, length-drop, drop-of-length-le, List·getD-map}
-use lib.Seq.{take-at, drop-at, getD-take, getD-drop, take-append-seam, drop-append-add, getD-append-add}
+use lib.ListN.{length, getD, set, take, drop, length-append, length-take, length-drop, drop-of-length-le, List·getD-map}
+use lib.Seq.{set-append-left, take-at, drop-at, getD-take, getD-drop, take-append-seam, drop-append-add, getD-append-add}
 use Rattle.model.specs.Pages.{virtual}
 use Rattle.model.specs.declared.VirtualPage.{VirtualPage}
 use Rattle.laws.specs.Over.{over}
@@ -23,6 +23,12 @@ page-at l i = List·getD-map virtual l i 0
 
 pub number-at : (b : List VirtualPage) (i : ℕ) → getD (numbersOf b) i 0 ≡ getD b i (virtual 0) .0
 number-at b i = List·getD-map (λ (p : VirtualPage). p .0) b i (virtual 0)
+
+set-behind : (p r : List ℕ) (i v : ℕ) → set (p ++ r) (length p + i) v ≡ p ++ set r i v
+set-behind [] r i v = let z : 0 + i ≡ i = omega arith in ap (λ n. set r n v) z
+set-behind (x ∷ xs) r i v =
+    let e : length (x ∷ xs) + i ≡ suc (length xs + i) = omega arith in
+    ap (λ n. set (x ∷ (xs ++ r)) n v) e ∙ ap (λ z. x ∷ z) (set-behind xs r i v)
 
 -- ---- the four parts, one behind the other
 over-next : (p r s : List ℕ) (at : ℕ) → length p ≡ at → over at s (p ++ r) ≡ (p ++ s) ++ drop (length s) r
@@ -47,6 +53,12 @@ module _ (h b g t : List ℕ) (eh : length h ≡ heldAt) (eb : length b ≡ 32) 
 
   pub tail-at : (k : ℕ) → getD (h ++ b ++ g ++ t) (dpcAt + k) 0 ≡ getD t k 0
   tail-at k = ap (λ n. getD (h ++ b ++ g ++ t) (n + k) 0) (sym three) ∙ getD-append-add (h ++ b ++ g) t k 0
+
+  -- one word of the third set
+  pub set-third : (i v : ℕ) → i < 32 → set (h ++ b ++ g ++ t) (gprAt + i) v ≡ h ++ b ++ set g i v ++ t
+  set-third i v q =
+      set-append-left (h ++ b ++ g) t (gprAt + i) v (omega (arith, three))
+      ∙ ap (λ z. z ++ t) (ap (λ n. set (h ++ b ++ g) (n + i) v) (sym two) ∙ set-behind (h ++ b) g i v)
 
   -- they are all, where each is put in its place
   module _ (l : List ℕ) (et : length t ≡ recordLength - dpcAt) (el : length l ≡ recordLength) where

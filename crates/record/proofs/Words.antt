@@ -2,15 +2,15 @@
 -- So a refusal leaves the words as they were handed in, and a call is handed exactly what the last one left.
 use mathlib.Core.Path.{_≡_, refl, sym, ap, ap₂, _∙_}
 use mathlib.Core.List.{List, [], _∷_, _++_}
-use Prim.Native.Nat.{ℕ, zero, suc, _+_, _≤_}
+use Prim.Native.Nat.{ℕ, zero, suc, _+_, _≤_, _<_}
 use native.Mathlib.Omega.{arith}
 use lib.ListN.{length, getD, set, take, length-append, length-map, length-set}
 use lib.Seq.{drop-cons, take-add, take-all, set-out}
 use Rattle.model.specs.Pages.{virtual}
 use Rattle.model.specs.declared.VirtualPage.{VirtualPage}
 use Rattle.model.specs.declared.Machine.{Machine}
-use Rattle.record.specs.Words.{heldAt, gprAt, dpcAt, recordLength, part, pagesOf, numbersOf, headOf, tailOf, machineOf, wordsOf, withWord}
-use Rattle.record.proofs.Parts.{length-part, part-held, part-gpr, tail-at}
+use Rattle.record.specs.Words.{heldAt, gprAt, dpcAt, recordLength, part, pagesOf, numbersOf, headOf, tailOf, machineOf, wordsOf, withRegister, withWord}
+use Rattle.record.proofs.Parts.{length-part, part-held, part-gpr, tail-at, set-third}
 
 -- the n words from word i on, one by one
 abbrev each : ℕ → ℕ → List ℕ → List ℕ
@@ -26,7 +26,7 @@ number-virtual : (s : List ℕ) → numbersOf (pagesOf s) ≡ s
 number-virtual [] = refl
 number-virtual (x ∷ xs) = ap (λ z. x ∷ z) (number-virtual xs)
 
-virtual-number : (b : List VirtualPage) → pagesOf (numbersOf b) ≡ b
+pub virtual-number : (b : List VirtualPage) → pagesOf (numbersOf b) ≡ b
 virtual-number [] = refl
 virtual-number (x ∷ xs) = ap (λ z. x ∷ z) (virtual-number xs)
 
@@ -46,6 +46,10 @@ words-machine l e =
 pub length-held : (l : List ℕ) → length l ≡ recordLength → length (machineOf l .book .held) ≡ 32
 unfolding machineOf
 length-held l e = length-map (part heldAt 32 l) virtual ∙ length-part heldAt 32 l (omega arith)
+
+length-gpr : (l : List ℕ) → length l ≡ recordLength → length (machineOf l .gpr) ≡ 32
+unfolding machineOf
+length-gpr l e = length-part gprAt 32 l (omega arith)
 
 module _ (m : Machine) (eb : length (m .book .held) ≡ 32) (eg : length (m .gpr) ≡ 32) where
   abbrev head : List ℕ
@@ -70,6 +74,11 @@ module _ (m : Machine) (eb : length (m .book .held) ≡ 32) (eg : length (m .gpr
   unfolding wordsOf
   length-words = simp (length-append, long, eg)
 
+  -- ---- one register set
+  words-register : (i v : ℕ) → i < 32 → wordsOf (withRegister m i v) ≡ set (wordsOf m) (gprAt + i) v
+  unfolding wordsOf
+  words-register i v h = sym (set-third head numbers (m .gpr) tail refl long eg i v h)
+
   -- ---- one word set
   module _ (i v : ℕ) where
     -- the words are those before but for word i
@@ -81,3 +90,10 @@ module _ (m : Machine) (eb : length (m .book .held) ≡ 32) (eg : length (m .gpr
     pub with-none : recordLength ≤ i → withWord m i v ≡ m
     unfolding withWord
     with-none h = ap machineOf (set-out (wordsOf m) i v (omega (arith, length-words))) ∙ machine-words
+
+-- one word set, where register i stands, is that register set
+pub register-set : (l : List ℕ) → length l ≡ recordLength → (i v : ℕ) → i < 32 → (k : ℕ) → k ≡ gprAt + i
+    → set l k v ≡ wordsOf (withRegister (machineOf l) i v)
+register-set l e i v h k is =
+    ap (λ n. set l n v) is ∙ ap (λ z. set z (gprAt + i) v) (sym (words-machine l e))
+    ∙ sym (words-register (machineOf l) (length-held l e) (length-gpr l e) i v h)

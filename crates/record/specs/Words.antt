@@ -97,6 +97,10 @@ tailOf p = p .dpc ∷ p .next ∷ []
 unfoldable pub wordsOf : Machine → List ℕ
 wordsOf m = headOf (m .shape) (m .book .used) (m .book .hand) ++ numbersOf (m .book .held) ++ m .gpr ++ tailOf (m .pcs)
 
+-- the record with register i set to v
+abbrev pub withRegister : Machine → ℕ → ℕ → Machine
+withRegister m i v = record { shape = m .shape; book = m .book; gpr = set (m .gpr) i v; pcs = m .pcs }
+
 -- the record with word i set to v; one that has no word i stays as it is
 unfoldable pub withWord : Machine → ℕ → ℕ → Machine
 withWord m i v = machineOf (set (wordsOf m) i v)

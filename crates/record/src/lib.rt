@@ -7,7 +7,7 @@ use model::Shape;
 use model::VirtualPage;
 ghost use mathlib.Core.Path.{_≡_};
 ghost use mathlib.Core.List.{_++_};
-ghost use Prim.Native.Nat.{_+_, _≤_};
+ghost use Prim.Native.Nat.{_+_, _≤_, _<_};
 ghost use lib.ListN.{length, set};
 ghost use Rattle.laws.specs.Over.{over};
 ghost use Rattle.record.specs.Words as words;
@@ -156,6 +156,15 @@ pub fn put_machine(to: &mut [u32], m: Machine)
     ];
     let tail = [p.dpc, p.next];
     lay(to, head, numbers_of(held), gpr, tail);
+}
+
+// Sets register i to v, and looks at no other word.
+pub fn set_register(to: &mut [u32], i: u32, v: u32)
+    requires { ⌜ (length (now to) ≡ words.recordLength) × (i < 32) ⌝ }
+    ensures { λ _. ⌜ now (to .exit) ≡ words.wordsOf (words.withRegister (words.machineOf (now (to .entry))) i v) ⌝ }
+{
+    let at = GPR + (i as usize);
+    to[at] = v;
 }
 
 // Sets word i to v, where there is one.

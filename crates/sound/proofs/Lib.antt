@@ -1,4 +1,5 @@
 -- Laws that the proofs of the functions cite.
+pub mod Count
+pub mod Frame
 pub mod Loops
-pub mod Resident
 pub mod Rows

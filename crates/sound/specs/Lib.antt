@@ -1,2 +1,3 @@
--- What the contract of the pass over the table names.
-pub mod Holds
+-- What the contracts of the tests name.
+pub mod Count
+pub mod Lean

@@ -2,38 +2,58 @@
 mod seats;
 
 use model::Machine;
+use model::Shape;
 ghost use mathlib.Core.Path.{_≡_};
-ghost use lib.ListN.{length};
+ghost use lib.ListN.{length, getD};
 ghost use Rattle.model.specs.Sound as soundness;
 ghost use Rattle.laws.specs.Good.{Fit};
+ghost use Rattle.sound.specs.Lean.{whole};
 
-// "A machine is sound when": the tests in the document's order, each for a machine that passed those before it.
-pub fn sound(m: Machine, main: &[u8]) -> bool
-    requires { ⌜ Fit (m .shape) (length (now main)) ⌝ }
-    ensures { λ r. ⌜ r ≡ soundness.sound m (now (main .entry)) ⌝ }
+// A machine as far as soundness asks of it, but for B, which is lent beside it as words: so no array is copied.
+pub struct Lean {
+    pub shape: Shape,
+    pub used: u32,
+    pub hand: u32,
+    pub zero: u32,
+}
+
+pub fn lean_of(m: Machine) -> Lean
+    ensures { λ r. ⌜ r ≡ record { shape = m .shape; used = m .book .used; hand = m .book .hand; zero = getD (m .gpr) 0 0 } ⌝ }
 {
     let s = m.shape;
     let b = m.book;
-    if m.gpr[0] != 0 {
+    Lean {
+        shape: s,
+        used: b.used,
+        hand: b.hand,
+        zero: m.gpr[0],
+    }
+}
+
+// "A machine is sound when": each test for a machine that passed those before it. As each B[i] is seated and all are different, no
+// other entry is valid exactly where there are b valid ones.
+pub fn sound(l: Lean, held: &[u32], main: &[u8]) -> bool
+    requires { ⌜ Fit (l .shape) (length (now main)) × (length (now held) ≡ 32) ⌝ }
+    ensures { λ r. ⌜ r ≡ soundness.sound (whole l (now (held .entry))) (now (main .entry)) ⌝ }
+{
+    let s = l.shape;
+    if l.zero != 0 {
         return false;
     }
-    if b.used > s.frames {
+    if l.used > s.frames {
         return false;
     }
-    if !book::check::held_in_table(s.ptl, b) {
+    if !book::check::all_different(l.used, held) {
         return false;
     }
-    if !book::check::all_different(b) {
+    if !book::check::rest_zero(l.used, held) {
         return false;
     }
-    if !book::check::rest_zero(b) {
+    if !seats::frames_seated(s, l.used, held, main) {
         return false;
     }
-    if !seats::frames_seated(s, b, main) {
+    if seats::valid_entries(s, main) != l.used {
         return false;
     }
-    if !seats::table_only(s, b, main) {
-        return false;
-    }
-    book::check::hand_right(s.frames, b)
+    book::check::hand_right(s.frames, l.used, l.hand)
 }

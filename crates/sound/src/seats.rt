@@ -1,27 +1,30 @@
 // What soundness says of the frame book and the table together: one pass over B, and one over the table.
-use model::FrameBook;
-use model::MainPage;
 use model::Shape;
-use model::VirtualPage;
 use paging::pages;
 use paging::table;
 ghost use mathlib.Core.Path.{_≡_};
-ghost use mathlib.Core.Bool.{true};
-ghost use Prim.Native.Nat.{_≤_};
+ghost use mathlib.Core.Bool.{_&&_};
+ghost use Prim.Native.Nat.{ℕ, _≤_};
 ghost use lib.ListN.{length};
 ghost use Rattle.laws.specs.Good.{Fit};
 ghost use Rattle.model.specs.Sound as tests;
-ghost use Rattle.sound.specs.Holds.{holds};
+ghost use Rattle.book.specs.Numbers.{bookOf};
+ghost use Rattle.sound.specs.Count.{validBelow};
 
-// "the entry of B[i] is valid with ppx abase+i"
-pub(crate) fn frames_seated(s: Shape, b: FrameBook, main: &[u8]) -> bool
-    requires { ⌜ Fit s (length (now main)) × (b .used ≤ 32) × (tests.heldInTable (s .ptl) b ≡ true) ⌝ }
-    ensures { λ r. ⌜ r ≡ tests.framesSeated s b (now (main .entry)) ⌝ }
+// "B[0..b−1] are below ptl", "the entry of B[i] is valid with ppx abase+i"
+pub(crate) fn frames_seated(s: Shape, used: u32, held: &[u32], main: &[u8]) -> bool
+    requires { ⌜ Fit s (length (now main)) × (used ≤ 32) × (length (now held) ≡ 32) ⌝ }
+    ensures { λ r. ⌜ ((hand : ℕ) → r ≡ (tests.heldInTable (s .ptl) (bookOf used hand (now (held .entry)))
+        && tests.framesSeated s (bookOf used hand (now (held .entry))) (now (main .entry)))) ⌝ }
 {
     let mut f: u32 = 0;
-    while f < b.used {
+    while f < used {
         let i = f as usize;
-        let e = table::entry(s, main, b.held[i]);
+        let x = held[i];
+        if x >= s.ptl {
+            return false;
+        }
+        let e = table::entry(s, main, pages::virtual_page(x));
         if e % 2 != 1 {
             return false;
         }
@@ -35,38 +38,16 @@ pub(crate) fn frames_seated(s: Shape, b: FrameBook, main: &[u8]) -> bool
     true
 }
 
-// Whether main page p is a frame in use that holds page x.
-fn holds(s: Shape, b: FrameBook, p: MainPage, x: VirtualPage) -> bool
-    requires { ⌜ b .used ≤ 32 ⌝ }
-    ensures { λ r. ⌜ r ≡ holds s b p x ⌝ }
+// The valid entries of the table.
+pub(crate) fn valid_entries(s: Shape, main: &[u8]) -> u32
+    requires { ⌜ Fit s (length (now main)) ⌝ }
+    ensures { λ r. ⌜ r ≡ validBelow s (now (main .entry)) (s .ptl) ⌝ }
 {
-    if p.0 < s.abase {
-        return false;
-    }
-    let f = pages::frame_of(s, p);
-    if f >= b.used {
-        return false;
-    }
-    let i = f as usize;
-    let y = b.held[i];
-    y.0 == x.0
-}
-
-// "no other entry is valid": a valid one names the frame that holds its page. As each B[i] is seated, no other frame can hold it.
-pub(crate) fn table_only(s: Shape, b: FrameBook, main: &[u8]) -> bool
-    requires { ⌜ Fit s (length (now main)) × (b .used ≤ 32) × (tests.framesSeated s b (now main) ≡ true) ⌝ }
-    ensures { λ r. ⌜ r ≡ tests.tableOnly s b (now (main .entry)) ⌝ }
-{
+    let mut n: u32 = 0;
     let mut x: u32 = 0;
     while x < s.ptl {
-        let y = pages::virtual_page(x);
-        let e = table::entry(s, main, y);
-        if e % 2 == 1 {
-            if !holds(s, b, pages::ppx(e), y) {
-                return false;
-            }
-        }
+        n += table::entry(s, main, pages::virtual_page(x)) % 2;
         x += 1;
     }
-    true
+    n
 }

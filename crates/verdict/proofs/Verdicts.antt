@@ -1,13 +1,14 @@
 -- Each verdict by its ways out, in the order 1, 2, 4, 3.
-use mathlib.Core.Path.{_≡_, sym, _∙_}
+use mathlib.Core.Path.{_≡_, sym, ap, _∙_}
 use mathlib.Core.Bool.{Bool, true, false, not}
-use mathlib.Core.List.{List}
+use mathlib.Core.List.{List, _∷_}
 use Prim.Native.Nat.{ℕ, _≤_, _<_}
-use lib.Dec.{leb}
-use lib.ListN.{length}
+use lib.Dec.{eqb, leb}
+use lib.ListN.{length, getD}
 use borrow.Author.Tests.{le-leb, lt-leb, not-true, not-false}
 use Rattle.model.specs.State.{State, state, memory}
-use Rattle.model.specs.Sound.{fits, sound}
+use Rattle.model.specs.Choice.{passes}
+use Rattle.model.specs.Sound.{fits, bookTests, sound}
 use Rattle.model.specs.Calls.{unless, machineVerdict, runVerdict, permitted, transferVerdict, replyVerdict}
 use Rattle.model.specs.declared.Machine.{Machine}
 use Rattle.model.specs.declared.Shape.{Shape}
@@ -18,6 +19,11 @@ use Rattle.model.specs.declared.Verdict.the-variants.{Granted, Refused}
 use Rattle.laws.specs.Good.{Fit}
 use Rattle.laws.proofs.Sound.{fit-of}
 use Rattle.laws.proofs.Granted.{machine-granted, refused-first}
+use Rattle.record.specs.Words.{numbersOf}
+use Rattle.record.proofs.Words.{virtual-number}
+use Rattle.book.specs.Numbers.{bookOf}
+use Rattle.sound.specs.Lean.{whole}
+use Rattle.sound.specs.declared.Lean.{Lean}
 
 -- ---- refusals 1 and 2
 module _ (m : Machine) (main swap : List ℕ) (f : Bool) (e : f ≡ fits (m .shape) (memory main swap)) where
@@ -32,6 +38,18 @@ module _ (m : Machine) (main swap : List ℕ) (f : Bool) (e : f ≡ fits (m .sha
     pub by-sound : (q : Bool) → q ≡ sound m main → unless q Unsound Granted ≡ machineVerdict (state m main swap) Granted
     unfolding machineVerdict
     by-sound q g = simp (← e, ← g, not-false f y)
+
+-- ---- the machine m, handed in parts: l and the words of B
+module _ (m : Machine) (main swap : List ℕ) (l : Lean) (hl : l ≡ record { shape = m .shape; used = m .book .used; hand = m .book .hand; zero = getD (m .gpr) 0 0 })
+    (held : List ℕ) (hh : held ≡ numbersOf (m .book .held)) where
+  same-book : bookOf (m .book .used) (m .book .hand) (numbersOf (m .book .held)) ≡ m .book
+  same-book = ap (λ h. record { used = m .book .used; hand = m .book .hand; held = h }) (virtual-number (m .book .held))
+
+  pub of-whole : (v : Verdict) → v ≡ machineVerdict (state (whole l held) main swap) Granted → v ≡ machineVerdict (state m main swap) Granted
+  unfolding machineVerdict sound
+  of-whole v e =
+      e ∙ rw (hl, hh) (ap (λ b. unless (fits (m .shape) (memory main swap)) Bound
+      (unless (passes (eqb (getD (m .gpr) 0 0) 0 ∷ bookTests (m .shape) b main)) Unsound Granted)) same-book)
 
 -- ---- the tests after them, by the verdict v on the machine
 module _ (p : State) (v : Verdict) (e : v ≡ machineVerdict p Granted) where

@@ -6,12 +6,15 @@ use model::Refusal;
 use model::Shape;
 use model::Verdict;
 use model::VirtualPage;
+use sound::Lean;
 ghost use mathlib.Core.Path.{_≡_};
 ghost use lib.ListN.{length};
 ghost use Rattle.model.specs.State.{state};
 ghost use Rattle.model.specs.Calls as calls;
 ghost use Rattle.model.specs.declared.Verdict.the-variants as verdict;
 ghost use Rattle.laws.specs.Good.{Fit};
+ghost use Rattle.sound.specs.Lean.{whole};
+ghost use Rattle.record.specs.Words.{numbersOf};
 
 // The refusal r where the test fails.
 fn unless(test: bool, r: Refusal) -> Verdict
@@ -23,15 +26,26 @@ fn unless(test: bool, r: Refusal) -> Verdict
     Verdict::Refused(r)
 }
 
-// Refusals 1 and 2, which every call but the reply tests first.
-fn machine_verdict(m: Machine, main: &[u8], swap: &[u8]) -> Verdict
-    ensures { λ r. ⌜ r ≡ calls.machineVerdict (state m (now (main .entry)) (now (swap .entry))) verdict.Granted ⌝ }
+// B as words, to be lent.
+fn held_of(m: Machine) -> [u32; 32]
+    ensures { λ r. ⌜ r ≡ numbersOf (m .book .held) ⌝ }
 {
-    let s = m.shape;
+    let b = m.book;
+    let held = b.held;
+    record::numbers_of(held)
+}
+
+// Refusals 1 and 2, which every call but the reply tests first. The machine is handed in parts, since a call that is not inlined copies
+// what it is handed by value.
+fn machine_verdict(l: Lean, held: &[u32], main: &[u8], swap: &[u8]) -> Verdict
+    requires { ⌜ length (now held) ≡ 32 ⌝ }
+    ensures { λ r. ⌜ r ≡ calls.machineVerdict (state (whole l (now (held .entry))) (now (main .entry)) (now (swap .entry))) verdict.Granted ⌝ }
+{
+    let s = l.shape;
     if !shape::fits(s, main, swap) {
         return Verdict::Refused(Refusal::Bound);
     }
-    unless(sound::sound(m, main), Refusal::Unsound)
+    unless(sound::sound(l, held, main), Refusal::Unsound)
 }
 
 // Refusal 4 of a run: "0 to 1,000,000 instructions". Its last test is written out because the run's loop is inlined behind it, and
@@ -39,7 +53,8 @@ fn machine_verdict(m: Machine, main: &[u8], swap: &[u8]) -> Verdict
 pub fn run_verdict(m: Machine, main: &[u8], swap: &[u8], limit: u32) -> Verdict
     ensures { λ r. ⌜ r ≡ calls.runVerdict (state m (now (main .entry)) (now (swap .entry))) limit ⌝ }
 {
-    match machine_verdict(m, main, swap) {
+    let held = held_of(m);
+    match machine_verdict(sound::lean_of(m), &held, main, swap) {
         Verdict::Refused(r) => Verdict::Refused(r),
         Verdict::Granted => {
             if limit <= 1000000 {
@@ -76,7 +91,8 @@ pub fn host_verdict(
     ensures { λ r. ⌜ r ≡ calls.hostVerdict writing (state m (now (main .entry)) (now (swap .entry))) va n ⌝ }
 {
     let s = m.shape;
-    match machine_verdict(m, main, swap) {
+    let held = held_of(m);
+    match machine_verdict(sound::lean_of(m), &held, main, swap) {
         Verdict::Refused(r) => Verdict::Refused(r),
         Verdict::Granted => transfer_verdict(s, main, writing, va, n),
     }
@@ -87,7 +103,8 @@ pub fn view_verdict(m: Machine, main: &[u8], swap: &[u8], page: VirtualPage) -> 
     ensures { λ r. ⌜ r ≡ calls.viewVerdict (state m (now (main .entry)) (now (swap .entry))) page ⌝ }
 {
     let s = m.shape;
-    match machine_verdict(m, main, swap) {
+    let held = held_of(m);
+    match machine_verdict(sound::lean_of(m), &held, main, swap) {
         Verdict::Refused(r) => Verdict::Refused(r),
         Verdict::Granted => unless(permission::viewable(s, main, page), Refusal::Rights),
     }

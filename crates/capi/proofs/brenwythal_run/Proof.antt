@@ -1,6 +1,8 @@
--- `brenwythal_run`: a record or an answer of another length, or what the run leaves.
-use mathlib.Core.Path.{_∙_}
-use Rattle.capi.proofs.Calls.{run-short, run-narrow, run-whole, run-handed}
+-- `brenwythal_run`: a record or an answer of another length, what the run leaves, or a refusal.
+use mathlib.Core.Path.{sym, ap, _∙_}
+use Rattle.model.specs.State.{state}
+use Rattle.model.specs.Calls.{runVerdict}
+use Rattle.capi.proofs.Calls.{run-short, run-narrow, run-not, run-whole, run-handed}
 use borrow.Author.Needs.{needs}
 use Rattle.capi.proofs.brenwythal_run.Statement.{statement}
 use Rattle.capi.proofs.brenwythal_run.Tie as tie
@@ -11,15 +13,47 @@ returns c = run-short _ _ _ _ _ (search needs)
 returns-2 : tie.Need-returns-2
 returns-2 c = run-narrow _ _ _ _ _ (search needs) (search needs)
 
+run-granted-requires : tie.Need-run-granted-requires
+run-granted-requires c κs =
+    let again = c .before .before in
+    let told = again .before .before in
+    let asked = told .before .before in
+    let read = asked .before .before .before in
+    let a = read .before .before .before .before .before .before .before .before .args in
+    ap (λ m. runVerdict (state m (a .main .now) (a .swap .now)) (a .limit)) (again .machine-of2 .ensures ∙ sym (read .machine-of .ensures))
+    ∙ sym (asked .run-verdict .ensures) ∙ told .enum-told .given .1
+
+put-machine-requires : tie.Need-put-machine-requires
+put-machine-requires c κs =
+    let went = c .before .before .before .before .before .before in
+    let read = went .before .before .before .before .before .before .before .before .before .before in
+    read .before .before .before .if1 .left
+
+put-run-requires : tie.Need-put-run-requires
+put-run-requires c κs =
+    let went = c .before .before .before .before .before .before .before .before .before .before in
+    let read = went .before .before .before .before .before .before .before .before .before .before in
+    read .before .before .if2 .left
+
 returns-3 : tie.Need-returns-3
 returns-3 c =
-    let k = c .before .before .before .before .before .before in
-    let j = k .before .before .before .before .before .before .before in
-    run-handed (j .run .result .answer) _ _ _ _ _ _ (c .before .before .put-run .ensures) (k .put-machine .ensures) _ (j .run .ensures)
-    ∙ run-whole _ _ _ _ _ (search needs) (search needs) _ (j .before .before .before .machine-of .ensures)
+    let put = c .before .before .before .before .before .before in
+    let went = put .before .before .before .before .before .before .before in
+    let again = went .before .before .before in
+    let read = again .before .before .before .before .before .before .before in
+    run-handed (went .run-granted .result .answer) _ _ _ _ _ _ (c .before .before .put-run .ensures) (put .put-machine .ensures) _ (went .run-granted .ensures)
+    ∙ run-whole _ _ _ _ _ (read .before .before .before .if1 .left) (read .before .before .if2 .left) _ (again .machine-of2 .ensures)
+
+returns-4 : tie.Need-returns-4
+returns-4 c =
+    let said = c .before .before in
+    let known = said .before .before .before in
+    let asked = known .before .before in
+    run-not _ _ _ _ _ (search needs) (search needs) _ (asked .before .before .before .machine-of .ensures) _ (asked .run-verdict .ensures) _ (known .r .given .1) _ _ (said .put-run2 .ensures)
 
 pub brenwythal-run-spec : {M : Type 1} → statement M
 brenwythal-run-spec =
     tie.close
-    (tie.spec returns returns-2 (λ c κs. search needs) (λ c κs. search needs) (λ c κs. search needs) (λ c κs. search needs)
-    (λ c. search needs) (λ c. search needs) (λ c. search needs) (λ c. search needs) returns-3)
+    (tie.spec returns returns-2 (λ c κs. search needs) (λ c κs. search needs) (λ c. search needs) (λ c κs. search needs) run-granted-requires
+    put-machine-requires put-run-requires (λ c. search needs) (λ c κs. search needs) (λ c. search needs) (λ c. search needs) (λ c. search needs)
+    (λ c. search needs) returns-3 (λ c. search needs) (λ c. search needs) (λ c. search needs) (λ c. search needs) returns-4)

@@ -5,12 +5,10 @@ use Rattle.book.proofs.check.hand_right.Statement.{statement}
 use Rattle.book.proofs.check.hand_right.Tie as tie
 
 returns : tie.Need-returns
-returns c = hand-free _ (c .before .before .before .args .b) (search needs)
+returns c = let a = c .before .args in λ held. hand-free (a .a) (a .used) (a .hand) held (search needs)
 
 returns-2 : tie.Need-returns-2
-returns-2 c = let a = c .before .before .before .args in hand-full (a .a) (a .b) (search needs)
+returns-2 c = let a = c .before .args in λ held. hand-full (a .a) (a .used) (a .hand) held (search needs)
 
 pub hand-right-spec : {M : Type 1} → statement M
-hand-right-spec =
-    tie.close
-    (tie.spec returns returns-2)
+hand-right-spec = tie.close (tie.spec returns returns-2)

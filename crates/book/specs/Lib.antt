@@ -1,0 +1,2 @@
+-- What the contracts of the tests name.
+pub mod Numbers

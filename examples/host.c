@@ -1,8 +1,6 @@
-/* A host in C: loads the console image in the file that is its argument, writes "7,5" across the border of pages 0 and 1, runs 1000
- * instructions, reads the three bytes back, and prints what the calls answered, the bytes in hex (37 2C 35). With the library at hand:
- *     tools/native-staticlib capi
- *     cc -Icrates/capi examples/host.c target/native/libcapi.a -o target/native/host
- *     target/native/host examples/depot.img
+/* A host in C: loads the console image in the file that is its argument, writes "7,5" across the border of
+ * pages 0 and 1, runs 1000 instructions, reads the three bytes back, and prints what the calls answered, the
+ * bytes in hex (37 2C 35). docs/MANUAL.md has the lines that compile and run it.
  */
 #include <stdio.h>
 

@@ -1,28 +1,55 @@
-/* The calls of the paged console machine, for hosts in C and C++. Link with libcapi.a (tools/native-staticlib capi).
+/* The calls of the paged console machine, for hosts in C and C++. Link with target/native/libbrenwythal.a,
+ * which `tools/native-staticlib capi` writes. docs/MANUAL.md has all of it at length.
  *
- * Nothing is allocated, kept or freed: everything lives in memory that the host owns and lends for the length of one call. One
- * machine is a record of BRENWYTHAL_RECORD words, its main memory and its swap; the host keeps these three together and lends them
- * to each call. Between calls it may copy or store them. What it changes in them by hand, the next call checks before it acts.
- * Different machines may be used from different threads at the same time, one machine by one thread at a time.
+ * Nothing is allocated, kept or freed: everything lives in memory that the host owns and lends for the length
+ * of one call. One machine is a record of BRENWYTHAL_RECORD words, its main memory and its swap; the host
+ * keeps these three together and lends them to each call. Between calls it may copy or store them. What it
+ * changes in them by hand, the next call checks before it acts. Different machines may be used from different
+ * threads at the same time, one machine by one thread at a time.
  *
- * A slice is lent as a pointer and then a length, which counts elements: bytes of a uint8_t slice, words of a uint32_t slice.
- * The host promises of each pointer what any C function would ask:
+ * A slice is lent as a pointer and then a length, which counts elements: bytes of a uint8_t slice, words of a
+ * uint32_t slice. The host promises of each pointer what any C function would ask:
  *   - it points to as many elements as the length says, and is aligned for them;
  *   - it is never NULL, not even with length 0;
  *   - a slice that is not const overlaps no other slice of the same call.
- * There is no other condition: any numbers, lengths, words and bytes may be handed in, and what does not fit is refused.
+ * There is no other condition: any numbers, lengths, words and bytes may be handed in, and what does not fit
+ * is refused.
  *
- * Every call returns 0, or the number of a refusal:
- *   1  a shape number or a memory's length breaks its bound; or a record, an answer or a view's buffer has the wrong length
- *   2  the machine is not sound: its registers, frame book and page table do not agree
- *   3  a page is outside the page table, or lacks the right
- *   4  the run or the transfer is too long; the register is not 1 to 31
- *   5  the image is under 24 bytes, or its edition is not 1
- *   6  a number of the image's trailer, a rights byte or the label's length breaks its rule
- *   7  the lent main memory or swap does not fit the image
- * The first that applies is given, in the order 1, 2, 4, 3, and for images 1, 5, 6, 7. A refused call changes nothing that is lent
- * to it, with two exceptions: the words of an answer become 0, and the record that brenwythal_load is to fill becomes all zeros.
- * (Where a record, an answer or a view's buffer has the wrong length, not even these change.)
+ * Every call returns 0, or the number of a refusal. The first that applies is given, in the order 1, 2, 4, 3,
+ * and for images 1, 5, 6, 7. A refused call changes nothing that is lent to it, with two exceptions: the
+ * words of an answer become 0, and the record that brenwythal_load is to fill becomes all zeros. (Where a
+ * record, an answer or a view's buffer has the wrong length, not even these change.)
+ *
+ * A whole host. It makes an image of one page that may be read and written, puts three instructions there
+ * (addi, sw, trap 5), runs it, and prints `stop 1 5, finished 3, loads 1`:
+ *
+ *     #include <stdio.h>
+ *     #include "brenwythal.h"
+ *
+ *     static uint8_t image[4096 + 1 + 24], main_memory[3 * 4096], swap[4096];
+ *
+ *     static void put(size_t at, uint32_t word) {
+ *         for (int i = 0; i < 4; i++) image[at + i] = (uint8_t)(word >> (8 * i));
+ *     }
+ *
+ *     int main(void) {
+ *         const uint32_t code[3] = {0x24010007, 0xAC010040, 0xF8000005};
+ *         const uint32_t trailer[6] = {25, 4121, 1, 0, 0, 1};
+ *         uint32_t record[BRENWYTHAL_RECORD], answer[BRENWYTHAL_RUN_ANSWER];
+ *         for (size_t i = 0; i < 3; i++) put(4 * i, code[i]);
+ *         image[4096] = 3;
+ *         for (size_t i = 0; i < 6; i++) put(4097 + 4 * i, trailer[i]);
+ *         uint32_t refused = brenwythal_load(image, sizeof image, main_memory, sizeof main_memory,
+ *                                            swap, sizeof swap, record, BRENWYTHAL_RECORD);
+ *         if (refused == 0)
+ *             refused = brenwythal_run(record, BRENWYTHAL_RECORD, main_memory, sizeof main_memory,
+ *                                      swap, sizeof swap, 1000, answer, BRENWYTHAL_RUN_ANSWER);
+ *         if (refused != 0) return (int)refused;
+ *         printf("stop %u %u, finished %u, loads %u\n", (unsigned)answer[BRENWYTHAL_STOP],
+ *                (unsigned)answer[BRENWYTHAL_DETAIL], (unsigned)answer[BRENWYTHAL_FINISHED],
+ *                (unsigned)answer[BRENWYTHAL_LOADS]);
+ *         return 0;
+ *     }
  */
 #ifndef BRENWYTHAL_H
 #define BRENWYTHAL_H
@@ -37,21 +64,35 @@ extern "C" {
 /* The length of a page in bytes. */
 #define BRENWYTHAL_PAGE 4096
 
-/* The length of a record in words, and where its parts begin: P, a, abase, ptl, pto, sbase, b, hand, B[0..31], GPR 0 to 31, DPC, PC'. */
+/* The numbers of the refusals, and when each is given. */
+enum {
+    BRENWYTHAL_REFUSAL_BOUND = 1,    /* a shape number or a memory's length breaks its bound; or a record, an
+                                        answer or a view's buffer has the wrong length */
+    BRENWYTHAL_REFUSAL_UNSOUND = 2,  /* the machine's registers, frame book and page table do not agree */
+    BRENWYTHAL_REFUSAL_RIGHTS = 3,   /* a page is outside the page table, or lacks the right */
+    BRENWYTHAL_REFUSAL_TOO_MUCH = 4, /* the run or the transfer is too long; the register is not 1 to 31 */
+    BRENWYTHAL_REFUSAL_EDITION = 5,  /* the image is under 24 bytes, or its edition is not 1 */
+    BRENWYTHAL_REFUSAL_FORMAT = 6,   /* a number of the image's trailer, a rights byte or the label's length
+                                        breaks its rule */
+    BRENWYTHAL_REFUSAL_ROOM = 7      /* the lent main memory or swap does not fit the image */
+};
+
+/* The length of a record in words, and where its parts begin: P, a, abase, ptl, pto, sbase, b, hand,
+ * B[0..31], GPR 0 to 31, DPC, PC'. */
 #define BRENWYTHAL_RECORD 74
 enum {
-    BRENWYTHAL_PAGES = 0,    /* P, the pages of main memory: 3 to 64 */
-    BRENWYTHAL_FRAMES = 1,   /* a, the frames among them: 2 to 32 */
-    BRENWYTHAL_ABASE = 2,    /* the main page of the first frame */
-    BRENWYTHAL_PTL = 3,      /* the pages of the guest: 1 to 1024 */
-    BRENWYTHAL_PTO = 4,      /* where the page table begins in main memory */
-    BRENWYTHAL_SBASE = 5,    /* the swap page of the guest's page 0 */
-    BRENWYTHAL_USED = 6,     /* b, the frames that hold a page */
-    BRENWYTHAL_HAND = 7,     /* the frame that is emptied next */
-    BRENWYTHAL_HELD = 8,     /* B[0..31], the page in each frame */
-    BRENWYTHAL_GPR = 40,     /* the registers 0 to 31 */
-    BRENWYTHAL_DPC = 72,     /* the address of the next instruction */
-    BRENWYTHAL_NEXT = 73     /* PC', the address of the one after it */
+    BRENWYTHAL_PAGES = 0,  /* P, the pages of main memory: 3 to 64 */
+    BRENWYTHAL_FRAMES = 1, /* a, the frames among them: 2 to 32 */
+    BRENWYTHAL_ABASE = 2,  /* the main page of the first frame */
+    BRENWYTHAL_PTL = 3,    /* the pages of the guest: 1 to 1024 */
+    BRENWYTHAL_PTO = 4,    /* where the page table begins in main memory */
+    BRENWYTHAL_SBASE = 5,  /* the swap page of the guest's page 0 */
+    BRENWYTHAL_USED = 6,   /* b, the frames that hold a page */
+    BRENWYTHAL_HAND = 7,   /* the frame that is emptied next */
+    BRENWYTHAL_HELD = 8,   /* B[0..31], the page in each frame */
+    BRENWYTHAL_GPR = 40,   /* the registers 0 to 31 */
+    BRENWYTHAL_DPC = 72,   /* the address of the next instruction */
+    BRENWYTHAL_NEXT = 73   /* PC', the address of the one after it */
 };
 
 /* The words of the answer of brenwythal_run. */
@@ -65,65 +106,69 @@ enum {
 
 /* Why a run ended, and its detail. After 2 to 4 the registers are as before that instruction. */
 enum {
-    BRENWYTHAL_STOP_LIMIT = 0,       /* the limit is used up; 0 */
-    BRENWYTHAL_STOP_TRAP = 1,        /* a trap, which is finished; its number */
-    BRENWYTHAL_STOP_MEMORY = 2,      /* illegal memory; the virtual address */
-    BRENWYTHAL_STOP_MISALIGNED = 3,  /* the virtual address */
-    BRENWYTHAL_STOP_INSTRUCTION = 4  /* an illegal instruction; its word */
+    BRENWYTHAL_STOP_LIMIT = 0,              /* the limit is used up; 0 */
+    BRENWYTHAL_STOP_TRAP = 1,               /* a trap, which is finished; its number */
+    BRENWYTHAL_STOP_ILLEGAL_MEMORY = 2,     /* the virtual address */
+    BRENWYTHAL_STOP_MISALIGNED = 3,         /* the virtual address */
+    BRENWYTHAL_STOP_ILLEGAL_INSTRUCTION = 4 /* its word */
 };
 
 /* The words of the answer of brenwythal_image. */
 #define BRENWYTHAL_IMAGE_ANSWER 3
 enum {
-    BRENWYTHAL_IMAGE_PTL = 0,    /* pages: swap is to be 4096 times as many bytes */
-    BRENWYTHAL_IMAGE_START = 1,  /* the address of the first instruction */
-    BRENWYTHAL_IMAGE_FRAMES = 2  /* frames as written, where 0 means 2: main memory is to have one page more, at least */
+    BRENWYTHAL_IMAGE_PTL = 0,   /* pages: swap is to be 4096 times as many bytes */
+    BRENWYTHAL_IMAGE_START = 1, /* the address of the first instruction */
+    BRENWYTHAL_IMAGE_FRAMES = 2 /* frames as written, where 0 means 2: main memory has one page more, at least */
 };
 
-/* Reads a console image and fills an answer of BRENWYTHAL_IMAGE_ANSWER words, from which the host finds the lengths of the
- * memories that loading takes. Refusals 1 (the answer's length), 5 and 6. */
+/* Reads a console image and fills an answer of BRENWYTHAL_IMAGE_ANSWER words, from which the host finds the
+ * lengths of the memories that loading takes. Refusals 1 (the answer's length), 5 and 6. */
 uint32_t brenwythal_image(const uint8_t *file, size_t file_length,
                           uint32_t *answer, size_t answer_length);
 
-/* Loads a console image: fills the record, and all of main memory and swap. Main memory is to be 3 to 64 whole pages, at least one
- * more than the frames; swap exactly the image's pages. The file is not needed afterwards. Refusals 1 (the record's length), 5, 6
- * and 7. */
+/* Loads a console image: fills the record, and all of main memory and swap. Main memory is to be 3 to 64
+ * whole pages, at least one more than the frames; swap exactly the image's pages. The file is not needed
+ * afterwards. Refusals 1 (the record's length), 5, 6 and 7. */
 uint32_t brenwythal_load(const uint8_t *file, size_t file_length,
                          uint8_t *main_memory, size_t main_length,
                          uint8_t *swap, size_t swap_length,
                          uint32_t *record, size_t record_length);
 
-/* Runs at most `limit` instructions, 0 to 1,000,000, and fills an answer of BRENWYTHAL_RUN_ANSWER words. Refusals 1, 2 and 4. */
+/* Runs at most `limit` instructions, 0 to 1,000,000, and fills an answer of BRENWYTHAL_RUN_ANSWER words.
+ * Refusals 1, 2 and 4. */
 uint32_t brenwythal_run(uint32_t *record, size_t record_length,
                         uint8_t *main_memory, size_t main_length,
                         uint8_t *swap, size_t swap_length,
                         uint32_t limit,
                         uint32_t *answer, size_t answer_length);
 
-/* Fills `into`, 0 to 256 bytes, from the guest's memory at virtual address `va`; it may go on from one page to the next. Every page
- * needs the right to read. No page is loaded. Refusals 1 to 4. */
+/* Fills `into`, 0 to 256 bytes, from the guest's memory at virtual address `va`; it may go on from one page
+ * to the next. Every page needs the right to read. No page is loaded. Refusals 1 to 4. */
 uint32_t brenwythal_read(const uint32_t *record, size_t record_length,
                          const uint8_t *main_memory, size_t main_length,
                          const uint8_t *swap, size_t swap_length,
                          uint32_t va,
                          uint8_t *into, size_t into_length);
 
-/* Writes the 0 to 256 bytes of `from` to the guest's memory at virtual address `va`; it may go on from one page to the next. Every
- * page needs the right to write. No page is loaded, and the record stays as it is. Refusals 1 to 4. */
+/* Writes the 0 to 256 bytes of `from` to the guest's memory at virtual address `va`; it may go on from one
+ * page to the next. Every page needs the right to write. No page is loaded, and the record stays as it is.
+ * Refusals 1 to 4. */
 uint32_t brenwythal_write(uint32_t *record, size_t record_length,
                           uint8_t *main_memory, size_t main_length,
                           uint8_t *swap, size_t swap_length,
                           uint32_t va,
                           const uint8_t *from, size_t from_length);
 
-/* Copies the guest's page number `page`, which needs the right to read, into a buffer of BRENWYTHAL_PAGE bytes. Refusals 1, 2, 3. */
+/* Copies the guest's page number `page`, which needs the right to read, into a buffer of BRENWYTHAL_PAGE
+ * bytes. Refusals 1, 2 and 3. */
 uint32_t brenwythal_view(const uint32_t *record, size_t record_length,
                          const uint8_t *main_memory, size_t main_length,
                          const uint8_t *swap, size_t swap_length,
                          uint32_t page,
                          uint8_t *into, size_t into_length);
 
-/* Sets register 1 to 31, as the answer to a trap. The machine itself is not checked. Refusals 1 (the record's length) and 4. */
+/* Sets register 1 to 31, as the answer to a trap. The machine itself is not checked. Refusals 1 (the record's
+ * length) and 4. */
 uint32_t brenwythal_reply(uint32_t *record, size_t record_length,
                           uint32_t reg, uint32_t value);
 

@@ -2,7 +2,8 @@
 //!
 //! [`Machine`] owns a machine's record and both of its memories and asks the library of brenwythal.h for
 //! everything that it does; this crate adds types, and no rule of its own. [`calls`] has the same calls on
-//! lent slices.
+//! lent slices. The names are those of the header: BRENWYTHAL_DPC is [`DPC`], BRENWYTHAL_STOP_TRAP is
+//! [`Stop::Trap`], BRENWYTHAL_REFUSAL_BOUND is [`Refusal::Bound`].
 //!
 //! ```no_run
 //! use brenwythal::{image, Machine, Stop};
@@ -20,17 +21,12 @@
 #![warn(missing_docs)]
 
 pub mod calls;
-mod error;
+mod places;
+mod refusal;
 
-pub use error::Error;
+pub use places::*;
+pub use refusal::Refusal;
 
-/// The length of a page in bytes.
-pub const PAGE: usize = 4096;
-/// The length of a record in words: P, a, abase, ptl, pto, sbase, b, hand, B[0..31], GPR 0 to 31, DPC, PC'.
-pub const RECORD: usize = 74;
-
-const GPR: usize = 40;
-const DPC: usize = 72;
 /// One page more than a main memory may have.
 const TOO_MANY: usize = 65;
 
@@ -53,9 +49,9 @@ impl Image {
 }
 
 /// Reads a console image. It can be refused 5 and 6.
-pub fn image(file: &[u8]) -> Result<Image, Error> {
-    let mut answer = [0; 3];
-    Error::check(calls::image(file, &mut answer))?;
+pub fn image(file: &[u8]) -> Result<Image, Refusal> {
+    let mut answer = [0; IMAGE_ANSWER];
+    Refusal::check(calls::image(file, &mut answer))?;
     let [ptl, start, frames] = answer;
     Ok(Image { ptl, start, frames })
 }
@@ -142,13 +138,13 @@ pub struct Machine {
 impl Machine {
     /// A fresh machine of a console image, with this many pages of main memory: 3 to 64, and at least one
     /// more than the frames. Swap gets the image's pages. It can be refused 5, 6 and 7.
-    pub fn load(file: &[u8], main_pages: usize) -> Result<Self, Error> {
+    pub fn load(file: &[u8], main_pages: usize) -> Result<Self, Refusal> {
         let ptl = image(file)?.ptl as usize;
         // The library refuses any number of pages above 64; so many need not be there for that.
         let mut main = vec![0; PAGE * main_pages.min(TOO_MANY)];
         let mut swap = vec![0; PAGE * ptl];
         let mut record = [0; RECORD];
-        Error::check(calls::load(file, &mut main, &mut swap, &mut record))?;
+        Refusal::check(calls::load(file, &mut main, &mut swap, &mut record))?;
         Ok(Machine { record, main, swap })
     }
 
@@ -164,33 +160,33 @@ impl Machine {
     }
 
     /// Runs at most `limit` instructions, 0 to 1,000,000. It can be refused 1, 2 and 4.
-    pub fn run(&mut self, limit: u32) -> Result<Ran, Error> {
-        let mut answer = [0; 4];
-        Error::check(calls::run(&mut self.record, &mut self.main, &mut self.swap, limit, &mut answer))?;
+    pub fn run(&mut self, limit: u32) -> Result<Ran, Refusal> {
+        let mut answer = [0; RUN_ANSWER];
+        Refusal::check(calls::run(&mut self.record, &mut self.main, &mut self.swap, limit, &mut answer))?;
         let [stop, detail, finished, loads] = answer;
         Ok(Ran { stop: Stop::new(stop, detail), finished, loads })
     }
 
     /// Fills `into`, 0 to 256 bytes, from the guest's memory at `va`. It can be refused 1 to 4.
-    pub fn read(&self, va: u32, into: &mut [u8]) -> Result<(), Error> {
-        Error::check(calls::read(&self.record, &self.main, &self.swap, va, into))
+    pub fn read(&self, va: u32, into: &mut [u8]) -> Result<(), Refusal> {
+        Refusal::check(calls::read(&self.record, &self.main, &self.swap, va, into))
     }
 
     /// Writes 0 to 256 bytes to the guest's memory at `va`. It can be refused 1 to 4.
-    pub fn write(&mut self, va: u32, from: &[u8]) -> Result<(), Error> {
-        Error::check(calls::write(&mut self.record, &mut self.main, &mut self.swap, va, from))
+    pub fn write(&mut self, va: u32, from: &[u8]) -> Result<(), Refusal> {
+        Refusal::check(calls::write(&mut self.record, &mut self.main, &mut self.swap, va, from))
     }
 
     /// The bytes of the guest's page, which needs the right to read. It can be refused 1, 2 and 3.
-    pub fn view(&self, page: u32) -> Result<[u8; PAGE], Error> {
+    pub fn view(&self, page: u32) -> Result<[u8; PAGE], Refusal> {
         let mut into = [0; PAGE];
-        Error::check(calls::view(&self.record, &self.main, &self.swap, page, &mut into))?;
+        Refusal::check(calls::view(&self.record, &self.main, &self.swap, page, &mut into))?;
         Ok(into)
     }
 
     /// Sets register 1 to 31, as the answer to a trap. It can be refused 4.
-    pub fn reply(&mut self, register: u32, value: u32) -> Result<(), Error> {
-        Error::check(calls::reply(&mut self.record, register, value))
+    pub fn reply(&mut self, register: u32, value: u32) -> Result<(), Refusal> {
+        Refusal::check(calls::reply(&mut self.record, register, value))
     }
 
     /// GPR 0 to 31.

@@ -1,5 +1,5 @@
 //! Worked values of document 01, through the wrapper.
-use brenwythal::{image, Error, Image, Machine, Ran, Stop, PAGE};
+use brenwythal::{image, Image, Machine, Ran, Refusal, Stop, GPR, HELD, PAGE, USED};
 
 const DEPOT: &[u8] = include_bytes!("../../../examples/depot.img");
 
@@ -76,7 +76,7 @@ fn four_loads() {
     let file = console(&[(3, &[lw(4096), lw(8192)]), (1, &[]), (1, &[])], 0, 2);
     let mut machine = Machine::load(&file, 3).unwrap();
     assert_eq!(machine.run(2), Ok(Ran { stop: Stop::Limit, finished: 2, loads: 4 }));
-    assert_eq!(machine.record()[6..10], [2, 0, 2, 0], "b, hand, B");
+    assert_eq!(machine.record()[USED..HELD + 2], [2, 0, 2, 0], "b, hand, B");
 }
 
 #[test]
@@ -85,7 +85,7 @@ fn stops() {
         let mut machine = Machine::load(&console(&[(3, &[word])], start, 0), 3).unwrap();
         let before = *machine.record();
         let stop = machine.run(1).unwrap().stop;
-        assert_eq!(machine.record()[40..], before[40..]);
+        assert_eq!(machine.record()[GPR..], before[GPR..]);
         (stop, stop.number(), stop.detail())
     };
     assert_eq!(stop_of(0x8C01_1000, 0), (Stop::IllegalMemory(4096), 2, 4096));
@@ -97,26 +97,26 @@ fn stops() {
 #[test]
 fn refusals() {
     let file = one_page();
-    assert_eq!(image(&[]), Err(Error::Edition));
-    assert_eq!(Machine::load(&file[..23], 5).err(), Some(Error::Edition));
-    assert_eq!(image(&console(&[(3, &[])], 0, 1)), Err(Error::Format));
-    assert_eq!(Machine::load(&console(&[(4, &[])], 0, 0), 5).err(), Some(Error::Format));
+    assert_eq!(image(&[]), Err(Refusal::Edition));
+    assert_eq!(Machine::load(&file[..23], 5).err(), Some(Refusal::Edition));
+    assert_eq!(image(&console(&[(3, &[])], 0, 1)), Err(Refusal::Format));
+    assert_eq!(Machine::load(&console(&[(4, &[])], 0, 0), 5).err(), Some(Refusal::Format));
     for pages in [0, 2, 65, usize::MAX] {
-        assert_eq!(Machine::load(&file, pages).err(), Some(Error::Room));
+        assert_eq!(Machine::load(&file, pages).err(), Some(Refusal::Room));
     }
     assert!(Machine::load(&file, 3).is_ok() && Machine::load(&file, 64).is_ok());
 
     let mut machine = Machine::load(&file, 5).unwrap();
     assert_eq!(machine.run(0), Ok(Ran { stop: Stop::Limit, finished: 0, loads: 0 }));
     let fresh = machine.clone();
-    assert_eq!(machine.run(1_000_001), Err(Error::TooMuch));
-    assert_eq!(machine.read(0, &mut [0; 257]), Err(Error::TooMuch));
-    assert_eq!(machine.write(0, &[0; 257]), Err(Error::TooMuch));
-    assert_eq!(machine.reply(0, 1), Err(Error::TooMuch));
-    assert_eq!(machine.reply(32, 1), Err(Error::TooMuch));
-    assert_eq!(machine.write(4000, &[0; 97]), Err(Error::Rights));
-    assert_eq!(machine.read(u32::MAX, &mut [0]), Err(Error::Rights));
-    assert_eq!(machine.view(1), Err(Error::Rights));
+    assert_eq!(machine.run(1_000_001), Err(Refusal::TooMuch));
+    assert_eq!(machine.read(0, &mut [0; 257]), Err(Refusal::TooMuch));
+    assert_eq!(machine.write(0, &[0; 257]), Err(Refusal::TooMuch));
+    assert_eq!(machine.reply(0, 1), Err(Refusal::TooMuch));
+    assert_eq!(machine.reply(32, 1), Err(Refusal::TooMuch));
+    assert_eq!(machine.write(4000, &[0; 97]), Err(Refusal::Rights));
+    assert_eq!(machine.read(u32::MAX, &mut [0]), Err(Refusal::Rights));
+    assert_eq!(machine.view(1), Err(Refusal::Rights));
     assert_eq!(machine.read(u32::MAX, &mut []), Ok(()));
     assert_eq!(machine.write(u32::MAX, &[]), Ok(()));
     assert!(machine == fresh);
@@ -128,30 +128,30 @@ fn refusals() {
 fn parts_that_do_not_fit() {
     let (record, main, swap) = Machine::load(&one_page(), 3).unwrap().into_parts();
     let mut empty = Machine::from_parts(record, Vec::new(), Vec::new());
-    assert_eq!(empty.run(1), Err(Error::Bound));
-    assert_eq!(empty.read(0, &mut []), Err(Error::Bound));
-    assert_eq!(empty.view(0), Err(Error::Bound));
+    assert_eq!(empty.run(1), Err(Refusal::Bound));
+    assert_eq!(empty.read(0, &mut []), Err(Refusal::Bound));
+    assert_eq!(empty.view(0), Err(Refusal::Bound));
     assert_eq!(empty.reply(31, 9), Ok(()));
     assert_eq!(empty.registers()[31], 9);
     let mut crooked = record;
-    crooked[40] = 1;
+    crooked[GPR] = 1;
     let mut unsound = Machine::from_parts(crooked, main.clone(), swap.clone());
-    assert_eq!(unsound.run(1), Err(Error::Unsound));
-    assert_eq!(unsound.write(0, &[1]), Err(Error::Unsound));
+    assert_eq!(unsound.run(1), Err(Refusal::Unsound));
+    assert_eq!(unsound.write(0, &[1]), Err(Refusal::Unsound));
     assert!(unsound == Machine::from_parts(crooked, main, swap));
 }
 
 #[test]
-fn errors_say_their_number() {
-    assert_eq!(Error::Unsound.to_string(), "refused 2: registers, frame book and page table do not agree");
+fn refusals_say_their_number() {
+    assert_eq!(Refusal::Unsound.to_string(), "refused 2: registers, frame book and page table do not agree");
     let all = [
-        Error::Bound,
-        Error::Unsound,
-        Error::Rights,
-        Error::TooMuch,
-        Error::Edition,
-        Error::Format,
-        Error::Room,
+        Refusal::Bound,
+        Refusal::Unsound,
+        Refusal::Rights,
+        Refusal::TooMuch,
+        Refusal::Edition,
+        Refusal::Format,
+        Refusal::Room,
     ];
-    assert!(all.iter().zip(1..).all(|(error, number)| error.number() == number));
+    assert!(all.iter().zip(1..).all(|(refusal, number)| refusal.number() == number));
 }

@@ -1,7 +1,6 @@
 //! The command line, for any second engine.
 use crate::{compare, generate::Generator, Engine, Peer};
 use std::io::{self, Read, Write};
-use std::time::Instant;
 
 /// `[seed] [calls]` compares the peer with `second`; `console` prints what the console program should print
 /// for standard input; `image <seed>` writes a small image, good or damaged, to standard output.
@@ -21,16 +20,13 @@ pub fn cli(second: &mut dyn Engine) -> io::Result<()> {
             let image = if seed % 2 == 0 { image } else { generator.damaged(image) };
             io::stdout().write_all(&image.bytes())?;
         }
-        _ => {
-            let start = Instant::now();
-            match compare(number(0, 1), number(1, 200_000), &mut Peer, second) {
-                Ok(stats) => println!("{stats:?}\nin {:?}", start.elapsed()),
-                Err(failure) => {
-                    println!("{failure}");
-                    std::process::exit(1);
-                }
+        _ => match compare(number(0, 1), number(1, 200_000), &mut Peer, second) {
+            Ok(stats) => println!("{stats}"),
+            Err(failure) => {
+                println!("{failure}");
+                std::process::exit(1);
             }
-        }
+        },
     }
     Ok(())
 }

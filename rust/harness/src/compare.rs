@@ -18,6 +18,17 @@ pub struct Stats {
     pub loads: u64,
 }
 
+impl fmt::Display for Stats {
+    fn fmt(&self, f: &mut fmt::Formatter) -> fmt::Result {
+        let listed = |counts: &[u64]| counts.iter().map(u64::to_string).collect::<Vec<_>>().join(" ");
+        let (answered, refused) = (self.refusals[0], listed(&self.refusals[1..]));
+        writeln!(f, "{} calls in {} series: no difference", self.calls, self.series)?;
+        writeln!(f, "answered {answered}, refused 1 to 7: {refused}")?;
+        writeln!(f, "runs by stop 0 to 4: {}", listed(&self.stops))?;
+        write!(f, "instructions {}, page loads {}", self.finished, self.loads)
+    }
+}
+
 /// A difference, with the smallest series found that shows it.
 pub struct Failure {
     pub seed: u64,

@@ -4,7 +4,7 @@ use std::fmt;
 /// A refusal. A refused call changes nothing.
 #[derive(Clone, Copy, Debug, PartialEq, Eq)]
 #[non_exhaustive]
-pub enum Error {
+pub enum Refusal {
     /// 1: a shape number or a memory's length breaks its bound.
     Bound,
     /// 2: registers, frame book and page table do not agree.
@@ -24,21 +24,28 @@ pub enum Error {
 }
 
 /// The refusals with a name, from 1 on.
-const NAMED: [Error; 7] =
-    [Error::Bound, Error::Unsound, Error::Rights, Error::TooMuch, Error::Edition, Error::Format, Error::Room];
+const NAMED: [Refusal; 7] = [
+    Refusal::Bound,
+    Refusal::Unsound,
+    Refusal::Rights,
+    Refusal::TooMuch,
+    Refusal::Edition,
+    Refusal::Format,
+    Refusal::Room,
+];
 
-impl Error {
+impl Refusal {
     /// The number of the refusal.
     pub fn number(self) -> u32 {
         match self {
-            Error::Bound => 1,
-            Error::Unsound => 2,
-            Error::Rights => 3,
-            Error::TooMuch => 4,
-            Error::Edition => 5,
-            Error::Format => 6,
-            Error::Room => 7,
-            Error::Other(number) => number,
+            Refusal::Bound => 1,
+            Refusal::Unsound => 2,
+            Refusal::Rights => 3,
+            Refusal::TooMuch => 4,
+            Refusal::Edition => 5,
+            Refusal::Format => 6,
+            Refusal::Room => 7,
+            Refusal::Other(number) => number,
         }
     }
 
@@ -47,24 +54,24 @@ impl Error {
         if number == 0 {
             return Ok(());
         }
-        Err(NAMED.into_iter().find(|e| e.number() == number).unwrap_or(Error::Other(number)))
+        Err(NAMED.into_iter().find(|e| e.number() == number).unwrap_or(Refusal::Other(number)))
     }
 }
 
-impl fmt::Display for Error {
+impl fmt::Display for Refusal {
     fn fmt(&self, f: &mut fmt::Formatter) -> fmt::Result {
         let why = match self {
-            Error::Bound => "a shape number or a memory's length breaks its bound",
-            Error::Unsound => "registers, frame book and page table do not agree",
-            Error::Rights => "a page is outside the page table, or lacks the right",
-            Error::TooMuch => "the run or the transfer is too long, or the register is not 1 to 31",
-            Error::Edition => "no console image of edition 1",
-            Error::Format => "a number, a rights byte or the label of the image breaks its rule",
-            Error::Room => "main memory or swap does not fit the image",
-            Error::Other(_) => "this wrapper has no name for it",
+            Refusal::Bound => "a shape number or a memory's length breaks its bound",
+            Refusal::Unsound => "registers, frame book and page table do not agree",
+            Refusal::Rights => "a page is outside the page table, or lacks the right",
+            Refusal::TooMuch => "the run or the transfer is too long, or the register is not 1 to 31",
+            Refusal::Edition => "no console image of edition 1",
+            Refusal::Format => "a number, a rights byte or the label of the image breaks its rule",
+            Refusal::Room => "main memory or swap does not fit the image",
+            Refusal::Other(_) => "this wrapper has no name for it",
         };
         write!(f, "refused {}: {why}", self.number())
     }
 }
 
-impl std::error::Error for Error {}
+impl std::error::Error for Refusal {}

@@ -1,0 +1,58 @@
+/* The stack that each call needs, in bytes, on the image that is the argument: what stands below this program's own frame is painted,
+ * and after the call the lowest byte that changed is looked for. Ends with status 1 if a call needs 4096 bytes or more. */
+#include <stdio.h>
+
+#include "brenwythal.h"
+
+#define DEEP 65536
+#define MOST 4096
+
+static uint8_t file[1024 + 1024 * 4097 + 24], main_memory[64 * BRENWYTHAL_PAGE], swap[1024 * BRENWYTHAL_PAGE];
+static uint8_t buffer[BRENWYTHAL_PAGE];
+static uint32_t record[BRENWYTHAL_RECORD], about[BRENWYTHAL_IMAGE_ANSWER], answer[BRENWYTHAL_RUN_ANSWER];
+static size_t length, main_length, swap_length;
+
+#define MACHINE record, BRENWYTHAL_RECORD, main_memory, main_length, swap, swap_length
+
+static uint32_t image(void) { return brenwythal_image(file, length, about, BRENWYTHAL_IMAGE_ANSWER); }
+static uint32_t load(void) {
+    return brenwythal_load(file, length, main_memory, main_length, swap, swap_length, record, BRENWYTHAL_RECORD);
+}
+static uint32_t run(void) { return brenwythal_run(MACHINE, 100000, answer, BRENWYTHAL_RUN_ANSWER); }
+static uint32_t read(void) { return brenwythal_read(MACHINE, 8000, buffer, 256); }
+static uint32_t write(void) { return brenwythal_write(MACHINE, 8000, buffer, 256); }
+static uint32_t view(void) { return brenwythal_view(MACHINE, 1, buffer, sizeof buffer); }
+static uint32_t reply(void) { return brenwythal_reply(record, BRENWYTHAL_RECORD, 1, 5); }
+
+static __attribute__((noinline)) size_t used(uint32_t (*call)(void), uint32_t *refused) {
+    volatile uint8_t *here = __builtin_frame_address(0);
+    volatile uint8_t *low = here - DEEP;
+    for (volatile uint8_t *p = low; p < here - 256; p++) *p = 0xA5;
+    *refused = call();
+    while (low < here - 256 && *low == 0xA5) low++;
+    return (size_t)(here - low);
+}
+
+int main(int count, char **words) {
+    FILE *in = count == 2 ? fopen(words[1], "rb") : NULL;
+    if (in == NULL) return 2;
+    length = fread(file, 1, sizeof file, in);
+    fclose(in);
+    if (image() != 0) return 2;
+    main_length = (size_t)(1 + (about[BRENWYTHAL_IMAGE_FRAMES] == 0 ? 2 : about[BRENWYTHAL_IMAGE_FRAMES])) * BRENWYTHAL_PAGE;
+    swap_length = (size_t)about[BRENWYTHAL_IMAGE_PTL] * BRENWYTHAL_PAGE;
+
+    const struct {
+        const char *name;
+        uint32_t (*call)(void);
+    } calls[] = {{"image", image}, {"load", load}, {"run", run}, {"read", read}, {"write", write}, {"view", view}, {"reply", reply}};
+    int bad = 0;
+    for (size_t i = 0; i < sizeof calls / sizeof calls[0]; i++) {
+        uint32_t refused;
+        size_t bytes = used(calls[i].call, &refused);
+        printf("%s: %zu bytes of stack\n", calls[i].name, bytes);
+        if (refused != 0) printf("%s: refused %u\n", calls[i].name, (unsigned)refused);
+        bad |= refused != 0 || bytes >= MOST;
+    }
+    return bad;
+}

@@ -6,7 +6,7 @@ pub mod Phases
 pub mod Competitive
 pub mod Orders
 pub mod Story
-pub mod Calls
+pub mod Series
 pub mod Ring
 pub mod Frames
 pub mod Handler

@@ -13,8 +13,9 @@ use Rattle.model.specs.declared.Verdict.{Verdict}
 use Rattle.model.specs.declared.Verdict.the-variants.{Granted, Refused}
 use Rattle.laws.specs.Good.{Good}
 use Rattle.laws.specs.Named.{Off, runNames, namesGranted, alongCall}
+use Rattle.laws.proofs.Entries.{same-spare}
 use Rattle.laws.proofs.Frame.{run-off, in-main}
-use Rattle.laws.proofs.Calls.{reply-call, read-call, view-call, write-call, write-machine, write-off, call-good, call-size}
+use Rattle.laws.proofs.Calls.{reply-call, read-call, view-call, write-call, write-machine, write-off, call-good, call-size, call-kept}
 use Rattle.demands.specs.Demand2.{Outside, Demand2}
 use Rattle.demands.proofs.FlatRun.{runs-flat, few-loads, halts}
 
@@ -43,5 +44,6 @@ demand-2 p g = record {
   replied = reply-call (p .machine);
   sound = call-good p g;
   size = call-size p g;
+  spare-bits = λ c x h. same-spare _ _ (call-kept p g c x h);
   outside = off p g;
 }

@@ -1,4 +1,4 @@
--- Demand 3: an instruction (`instruction-demand`), a run (`run-demand`), and from a fresh machine any series of calls (`demand-3`).
+-- Demand 3: an instruction (`instruction-demand`), a run (`run-demand`), and from a fresh machine any series of steps (`demand-3`).
 use mathlib.Core.Path.{_≡_, refl, sym, ap, subst, _∙_}
 use mathlib.Core.List.{List, []}
 use Prim.Native.Nat.{ℕ, _+_, _<_, _≤_}
@@ -13,27 +13,27 @@ use Rattle.model.specs.Flat.{Flat, flat}
 use Rattle.model.specs.Order.{Demand, orderOf}
 use Rattle.model.specs.Answers.{stopNumber}
 use Rattle.model.specs.Calls.{runCall}
-use Rattle.model.specs.Series.{Call, after, loadsOf, callOrder, afterAll, loadsOfAll, orderOfAll}
+use Rattle.model.specs.Series.{SeriesStep, afterStep, stepLoads, stepOrder, afterAll, loadsOfAll, orderOfAll}
 use Rattle.model.specs.declared.Shape.{Shape}
 use Rattle.model.specs.declared.FrameBook.{FrameBook}
 use Rattle.model.specs.declared.VirtualPage.{VirtualPage}
 use Rattle.laws.specs.Good.{Good}
 use Rattle.laws.proofs.Run.{run-right}
 use Rattle.laws.proofs.Granted.{run-reported}
-use Rattle.laws.proofs.Calls.{call-good, call-size}
+use Rattle.laws.proofs.Calls.{step-good, step-size}
 use Rattle.bound.specs.Orders.{Order}
 use Rattle.bound.specs.Story.{Story}
 use Rattle.bound.specs.Frames.{pages, Keeps}
 use Rattle.bound.specs.Handler.{handle}
-use Rattle.bound.proofs.Calls.{calls-equal, calls-fewer}
+use Rattle.bound.proofs.Series.{series-equal, series-fewer}
 use Rattle.bound.proofs.Frames.{keeps-first-come}
 use Rattle.bound.proofs.Handler.{handle-story}
 use Rattle.bound.proofs.Own.{own}
-use Rattle.demands.specs.Brought.{runBrings, callBrings, seriesBrings, Steps}
+use Rattle.demands.specs.Brought.{runBrings, stepBrings, seriesBrings, Steps}
 use Rattle.demands.specs.Demand3.{frames, residents, leaving, stoppedFetch, InstructionServed, RunServed, RunsServed, Fresh, SeriesServed, Demand3}
 use Rattle.demands.proofs.Turns.{atLarge, Handled, instruction-served}
 use Rattle.demands.proofs.OrderLength.{order-length}
-use Rattle.demands.proofs.Stories.{having, run-handled, call-handled, series-handled}
+use Rattle.demands.proofs.Stories.{having, run-handled, step-handled, series-handled}
 
 -- ---- a machine whose book keeps the order o
 module _ (o : Order) (kept : Keeps o) where
@@ -68,37 +68,37 @@ module _ (o : Order) (kept : Keeps o) where
       counts : Course Flat → ℕ
       counts c = c .finished + stoppedFetch (stopNumber (c .stop)) (c .left)
 
-  -- ---- a series: every call leaves a good machine with as many frames, and has its story
+  -- ---- a series: every step leaves a good machine with as many frames, and has its story
   abbrev Ready : ℕ → State → Type 0
   Ready a p = Good p × (frames p ≡ a)
 
   module _ (a : ℕ) where
-    call-ready : (p : State) (c : Call) → Ready a p → Ready a (after p c)
-    call-ready p c s = (call-good p (s .0) c, ap (λ (x : Shape). x .frames) (call-size p (s .0) c .shape) ∙ s .1)
+    step-ready : (p : State) (s : SeriesStep) → Ready a p → Ready a (afterStep p s)
+    step-ready p s r = (step-good p (r .0) s, ap (λ (x : Shape). x .frames) (step-size p (r .0) s .shape) ∙ r .1)
 
-    call-story : (p : State) (c : Call) → Ready a p → Story o a (residents p) (callOrder p c) (loadsOf p c) (residents (after p c))
-    call-story p c s =
-        subst (λ (x : ℕ). Story o x (residents p) (callOrder p c) (loadsOf p c) (residents (after p c))) (s .1)
-        (story p (after p c) (loadsOf p c) (callBrings p c) (callOrder p c) (call-handled o kept p c (s .0)))
+    step-story : (p : State) (s : SeriesStep) → Ready a p → Story o a (residents p) (stepOrder p s) (stepLoads p s) (residents (afterStep p s))
+    step-story p s r =
+        subst (λ (x : ℕ). Story o x (residents p) (stepOrder p s) (stepLoads p s) (residents (afterStep p s))) (r .1)
+        (story p (afterStep p s) (stepLoads p s) (stepBrings p s) (stepOrder p s) (step-handled o kept p s (r .0)))
 
-  module _ (p : State) (g : Good p) (e : p .machine .book ≡ emptyBook) (cs : List Call) where
-    h : Handled (uncounted p) (having (afterAll p cs) (loadsOfAll p cs)) (seriesBrings p cs) (atLarge o p (orderOfAll p cs))
-    h = series-handled o kept p cs g
+  module _ (p : State) (g : Good p) (e : p .machine .book ≡ emptyBook) (ss : List SeriesStep) where
+    h : Handled (uncounted p) (having (afterAll p ss) (loadsOfAll p ss)) (seriesBrings p ss) (atLarge o p (orderOfAll p ss))
+    h = series-handled o kept p ss g
 
     -- the loads of the handler in the large from no page on
-    fresh-loads : handle o (frames p) (orderOfAll p cs) [] .loads ≡ loadsOfAll p cs
+    fresh-loads : handle o (frames p) (orderOfAll p ss) [] .loads ≡ loadsOfAll p ss
     fresh-loads =
-        ap (λ (q : List VirtualPage). handle o (frames p) (orderOfAll p cs) q .loads) (sym (ap pages e))
-        ∙ same-loads p (afterAll p cs) (loadsOfAll p cs) (seriesBrings p cs) (orderOfAll p cs) h
+        ap (λ (q : List VirtualPage). handle o (frames p) (orderOfAll p ss) q .loads) (sym (ap pages e))
+        ∙ same-loads p (afterAll p ss) (loadsOfAll p ss) (seriesBrings p ss) (orderOfAll p ss) h
 
-    fresh-served : SeriesServed (frames p) p cs
+    fresh-served : SeriesServed (frames p) p ss
     fresh-served = record {
-      counted = counted p (afterAll p cs) (loadsOfAll p cs) (seriesBrings p cs) (orderOfAll p cs) h;
-      steps = subst (λ (b : FrameBook). Steps (frames p) b (seriesBrings p cs) (afterAll p cs .machine .book)) e (h .steps);
+      counted = counted p (afterAll p ss) (loadsOfAll p ss) (seriesBrings p ss) (orderOfAll p ss) h;
+      steps = subst (λ (b : FrameBook). Steps (frames p) b (seriesBrings p ss) (afterAll p ss .machine .book)) e (h .steps);
       bound = λ rival.
-          omega (arith, calls-equal o (frames p) (Ready (frames p)) residents (call-ready (frames p)) (call-story (frames p)) p cs (g, refl) rival);
-      own = let z = own o (frames p) (g .fit .frames-least) (orderOfAll p cs) in (z .0, z .1 ∙ fresh-loads);
-      fewer = calls-fewer o (frames p) (Ready (frames p)) residents (call-ready (frames p)) (call-story (frames p)) p cs (g, refl);
+          omega (arith, series-equal o (frames p) (Ready (frames p)) residents (step-ready (frames p)) (step-story (frames p)) p ss (g, refl) rival);
+      own = let z = own o (frames p) (g .fit .frames-least) (orderOfAll p ss) in (z .0, z .1 ∙ fresh-loads);
+      fewer = series-fewer o (frames p) (Ready (frames p)) residents (step-ready (frames p)) (step-story (frames p)) p ss (g, refl);
     }
 
 -- ---- the machine's order
@@ -130,4 +130,4 @@ fresh p g e = record { good = g; frames = refl; empty = λ i. record { used = e 
         (λ i q. zero-page i (omega (arith, q, g .seated .booked .array)))
 
 pub demand-3 : Demand3
-demand-3 a p f cs = subst (λ (x : ℕ). SeriesServed x p cs) (f .frames) (fresh-served leaving kept p (f .good) (f .empty) cs)
+demand-3 a p f ss = subst (λ (x : ℕ). SeriesServed x p ss) (f .frames) (fresh-served leaving kept p (f .good) (f .empty) ss)

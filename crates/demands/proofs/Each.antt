@@ -1,6 +1,6 @@
--- Each load, each instruction and each run from a sound machine on (`each-load`, `each-instruction`, `each-run`); and the page loaded last
--- is never the victim, in any book (`never-victim`).
-use mathlib.Core.Path.{_≡_, refl, sym, subst⁻¹, _∙_}
+-- Each load, instruction, run and change of spare bits from a sound machine on (`each-load`, `each-instruction`, `each-run`,
+-- `each-spare`); and the page loaded last is never the victim, in any book (`never-victim`).
+use mathlib.Core.Path.{_≡_, refl, sym, ap, subst⁻¹, _∙_}
 use mathlib.Core.Bool.{Bool, true, false}
 use mathlib.Core.List.{List, [], _∷_, List·Memᴰ, List·Memᴰ·not-nil, List·Memᴰ·eq-of-singleton}
 use Prim.Native.Nat.{ℕ, _≤_}
@@ -8,39 +8,46 @@ use native.Mathlib.Omega.{arith}
 use borrow.Author.Tests.{ltb-false}
 use lib.ListN.{length}
 use Rattle.model.specs.Choice.{if_then_else_}
-use Rattle.model.specs.Table.{entry, valid}
+use Rattle.model.specs.Table.{valid, spare, entry}
 use Rattle.model.specs.Frames.{pageIn, free, frame}
 use Rattle.model.specs.State.{State}
 use Rattle.model.specs.Handler.{load}
 use Rattle.model.specs.Run.{Step, goes, stops, Counted, uncounted, instruction}
 use Rattle.model.specs.Order.{Demand, demandOf}
+use Rattle.model.specs.Flat.{rightsByte}
+use Rattle.model.specs.Series.{spared}
 use Rattle.model.specs.declared.FrameBook.{FrameBook}
 use Rattle.model.specs.declared.VirtualPage.{VirtualPage}
 use Rattle.laws.specs.Good.{Good}
 use Rattle.laws.specs.Mapped.{mapStep}
+use Rattle.laws.specs.Entries.{Place, SamePlace}
 use Rattle.laws.specs.Demand2.{flatOf}
 use Rattle.laws.specs.Named.{loadVictims, runVictims}
 use Rattle.laws.proofs.Sound.{resident-valid}
 use Rattle.laws.proofs.Seats.{Seats, seats}
-use Rattle.laws.proofs.Load.{load-good, load-flat, load-here, load-spares}
+use Rattle.laws.proofs.Load.{load-good, load-flat, load-kept, load-came, load-left, load-remains}
 use Rattle.laws.proofs.Instruction.{instruction-right}
 use Rattle.laws.proofs.Loads.{instruction-loads}
 use Rattle.laws.proofs.Frame.{load-swap-stays, instruction-swap-off, run-swap-off}
 use Rattle.laws.proofs.Granted.{run-reported}
+use Rattle.laws.proofs.Spare.{spared-machine, spared-swap, spared-here, spared-place, spared-rights, spared-off, spared-good, spared-flat}
 use Rattle.bound.specs.Schedule.{Holds}
-use Rattle.demands.specs.Demand3.{residents, leaving, Serves}
-use Rattle.demands.specs.Each.{SwapStays, Missed, Finishes, EachLoad, NeverVictim, EachInstruction, EachRun}
+use Rattle.demands.specs.Demand3.{frames, residents, leaving, Serves}
+use Rattle.demands.specs.Each.{entryOf, SwapStays, Missed, Finishes, EachLoad, NeverVictim, EachInstruction, EachRun, EachSpare}
 use Rattle.demands.proofs.Turns.{Single, none, single, demand-single}
 use Rattle.demands.proofs.OrderLength.{Asked, flat-asked}
 use Rattle.demands.proofs.Demand3.{instruction-demand, run-demand}
 
--- a page that is not in the frame taken, where none is free, is no victim
-no-victim : (a : ℕ) (b : FrameBook) (y : VirtualPage) → (a ≤ b .used → y ≡ pageIn b (frame a b) → ⊥) → ¬ List·Memᴰ y (loadVictims a b)
-no-victim a b y h = pick (free a b) refl
+-- a victim is the page in the frame taken, where none is free; a page that is not, is no victim
+victim : (a : ℕ) (b : FrameBook) (y : VirtualPage) → List·Memᴰ y (loadVictims a b) → (a ≤ b .used) × (y ≡ pageIn b (frame a b))
+victim a b y = pick (free a b) refl
   where
-    pick : (x : Bool) → free a b ≡ x → ¬ List·Memᴰ y (if x then [] else pageIn b (frame a b) ∷ [])
-    pick true e m = List·Memᴰ·not-nil m
-    pick false e m = h (ltb-false (b .used) a e) (List·Memᴰ·eq-of-singleton m)
+    pick : (x : Bool) → free a b ≡ x → List·Memᴰ y (if x then [] else pageIn b (frame a b) ∷ []) → (a ≤ b .used) × (y ≡ pageIn b (frame a b))
+    pick true e m = absurd (List·Memᴰ·not-nil m)
+    pick false e m = (ltb-false (b .used) a e, List·Memᴰ·eq-of-singleton m)
+
+no-victim : (a : ℕ) (b : FrameBook) (y : VirtualPage) → (a ≤ b .used → y ≡ pageIn b (frame a b) → ⊥) → ¬ List·Memᴰ y (loadVictims a b)
+no-victim a b y h m = let v : (a ≤ b .used) × (y ≡ pageIn b (frame a b)) = victim a b y m in h (v .0) (v .1)
 
 -- ---- a load
 module _ (p : State) (g : Good p) (y : VirtualPage) (h : Missed p y) where
@@ -57,15 +64,21 @@ each-load p g y h = record {
   stands = load-flat p g y (h .inside) (invalid p g y h);
   here =
       resident-valid (p .machine .shape) (load p y .machine .book) (load p y .memory .main) (after p g y h .seated) y (h .inside)
-      ∙ load-here p g y (h .inside) (invalid p g y h);
+      ∙ load-came p g y (h .inside) (invalid p g y h) .there;
+  came = load-came p g y (h .inside) (invalid p g y h);
+  left = λ x m.
+      let v : (frames p ≤ p .machine .book .used) × (x ≡ pageIn (p .machine .book) (frame (frames p) (p .machine .book)))
+      = victim (frames p) (p .machine .book) x m in
+      subst⁻¹ (λ z. Place 0 false (entryOf (load p y) z)) (v .1) (load-left p g y (h .inside) (invalid p g y h) (v .0));
+  kept = load-kept p g y (h .inside) (invalid p g y h);
   swap = λ j o. load-swap-stays (uncounted p) g y (h .inside) j (record { unframed = tt; clear = o });
-  spared = λ z. no-victim (p .machine .shape .frames) (load p y .machine .book) y (load-spares p g y (h .inside) (invalid p g y h));
+  remains = λ z. no-victim (p .machine .shape .frames) (load p y .machine .book) y (load-remains p g y (h .inside) (invalid p g y h));
 }
 
 pub never-victim : NeverVictim
 never-victim a two most b g h y =
     let t : Seats a b y _ _ = seats a two most b y g h in
-    record { seated = t .put; spared = t .moves }
+    record { seated = t .put; remains = t .moves }
 
 -- ---- an instruction
 -- one that finishes has a demand
@@ -96,3 +109,19 @@ each-run p g n few = record {
   swap = subst⁻¹ (λ r. SwapStays p (runVictims n (uncounted p)) (r .state)) (run-reported p g n few)
       (λ j o. run-swap-off n (uncounted p) g j (record { unframed = tt; clear = o }));
 }
+
+-- ---- the host's change of spare bits
+pub each-spare : EachSpare
+each-spare p g x v = record {
+  sound = spared-good p g x v;
+  stands = spared-flat p g x v;
+  holds = λ hx hv. ap spare (same x) ∙ spared-here p g x v hx hv;
+  places = λ y. subst⁻¹ (SamePlace (entryOf p y)) (same y) (spared-place p g x v y);
+  rights = λ y. ap rightsByte (same y) ∙ spared-rights p g x v y;
+  machine = spared-machine p g x v;
+  swap = spared-swap p g x v;
+  beside = spared-off p g x v;
+}
+  where
+    same : (y : VirtualPage) → entryOf (spared p x v) y ≡ entry (p .machine .shape) (spared p x v .memory .main) y
+    same y = ap (λ m. entry (m .shape) (spared p x v .memory .main) y) (spared-machine p g x v)

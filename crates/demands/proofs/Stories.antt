@@ -1,5 +1,5 @@
--- A run, a call and a series of calls beside the handler in the large: the same loads for the same instructions in the same order
--- (`run-handled`, `call-handled`, `series-handled`).
+-- A run, a call and a series of steps beside the handler in the large: the same loads for the same instructions in the same order
+-- (`run-handled`, `step-handled`, `series-handled`).
 use mathlib.Core.Path.{_≡_, refl, sym, ap, ap₂, subst, _∙_}
 use mathlib.Core.Bool.{true}
 use mathlib.Core.List.{List, [], _∷_, _++_, append-nil}
@@ -10,7 +10,7 @@ use Rattle.model.specs.State.{State}
 use Rattle.model.specs.Run.{Step, goes, stops, Counted, uncounted, instruction, run}
 use Rattle.model.specs.Order.{Demand, demandOf, onwards, orderOf}
 use Rattle.model.specs.Calls.{runBy, runVerdict, runCall, writeBy, writeCall, hostVerdict, replyBy, replyVerdict, replyCall}
-use Rattle.model.specs.Series.{Call, runs, reads, writes, views, replies, after, loadsOf, orderBy, callOrder, afterAll, loadsOfAll, orderOfAll}
+use Rattle.model.specs.Series.{Call, runs, reads, writes, views, replies, after, loadsOf, orderBy, callOrder, SeriesStep, calls, spares, afterStep, stepLoads, stepOrder, afterAll, loadsOfAll, orderOfAll}
 use Rattle.model.specs.declared.Shape.{Shape}
 use Rattle.model.specs.declared.FrameBook.{FrameBook}
 use Rattle.model.specs.declared.VirtualPage.{VirtualPage}
@@ -23,12 +23,13 @@ use Rattle.laws.specs.Named.{namesOnward, namesGranted, alongRun, alongCall}
 use Rattle.laws.proofs.Simulate.{run-all}
 use Rattle.laws.proofs.Instruction.{instruction-right}
 use Rattle.laws.proofs.Run.{GoodCounted, keeps, first-shape}
-use Rattle.laws.proofs.Calls.{call-good, call-size}
+use Rattle.laws.proofs.Spare.{spared-machine}
+use Rattle.laws.proofs.Calls.{step-good, step-size}
 use Rattle.bound.specs.Orders.{Order}
 use Rattle.bound.specs.Frames.{pages, Keeps}
 use Rattle.bound.specs.Handler as large
 use Rattle.bound.proofs.Handler.{handle-append}
-use Rattle.demands.specs.Brought.{instructionBrings, runBrings, callBrings, seriesBrings, Steps, no-step, one-step}
+use Rattle.demands.specs.Brought.{instructionBrings, runBrings, callBrings, stepBrings, seriesBrings, Steps, no-step, one-step}
 use Rattle.demands.specs.Demand3.{frames, residents}
 use Rattle.demands.proofs.Turns.{atLarge, Handled, instruction-handled}
 
@@ -97,8 +98,8 @@ module _ (o : Order) (kept : Keeps o) where
       (join c next _ (instructionBrings (c .state)) (runBrings n next) (demandOf (flatOf c)) (orderOf n (flatOf next))
       (ap (λ (x : Shape). x .frames) (first-shape c g next (ap leaves e))) (first-handled c g (goes next) e) t))
 
-  -- ---- a call, and a series of calls
-  -- a call that leaves the book as it is
+  -- ---- a call, a step, and a series of steps
+  -- one that leaves the book as it is
   still : (p r : State) → r .machine .book ≡ p .machine .book → Handled (uncounted p) (having r 0) [] (atLarge o p [])
   unfolding large.handle
   still p r e = record {
@@ -108,7 +109,7 @@ module _ (o : Order) (kept : Keeps o) where
     steps = subst (λ x. Steps (frames p) (p .machine .book) [] x) (sym e) no-step;
   }
 
-  pub call-handled : (p : State) (c : Call) → Good p
+  call-handled : (p : State) (c : Call) → Good p
       → Handled (uncounted p) (having (after p c) (loadsOf p c)) (callBrings p c) (atLarge o p (callOrder p c))
   unfolding after loadsOf callOrder alongCall runCall writeCall replyCall
   call-handled p (runs n) g = by (runVerdict p n)
@@ -131,12 +132,18 @@ module _ (o : Order) (kept : Keeps o) where
       by Granted = still p _ refl
       by (Refused r) = still p _ refl
 
-  pub series-handled : (p : State) (cs : List Call) → Good p
-      → Handled (uncounted p) (having (afterAll p cs) (loadsOfAll p cs)) (seriesBrings p cs) (atLarge o p (orderOfAll p cs))
+  pub step-handled : (p : State) (s : SeriesStep) → Good p
+      → Handled (uncounted p) (having (afterStep p s) (stepLoads p s)) (stepBrings p s) (atLarge o p (stepOrder p s))
+  unfolding afterStep stepLoads stepOrder stepBrings
+  step-handled p (calls c) g = call-handled p c g
+  step-handled p (spares x v) g = still p _ (ap (λ m. m .book) (spared-machine p g x v))
+
+  pub series-handled : (p : State) (ss : List SeriesStep) → Good p
+      → Handled (uncounted p) (having (afterAll p ss) (loadsOfAll p ss)) (seriesBrings p ss) (atLarge o p (orderOfAll p ss))
   unfolding afterAll loadsOfAll orderOfAll seriesBrings
   series-handled p [] g = still p p refl
-  series-handled p (c ∷ cs) g =
-      join (uncounted p) (having (after p c) (loadsOf p c)) (having (afterAll (after p c) cs) (loadsOf p c + loadsOfAll (after p c) cs))
-      (callBrings p c) (seriesBrings (after p c) cs) (callOrder p c) (orderOfAll (after p c) cs)
-      (ap (λ (x : Shape). x .frames) (call-size p g c .shape)) (call-handled p c g)
-      (after-loads (loadsOf p c) (after p c) (afterAll (after p c) cs) (loadsOfAll (after p c) cs) _ _ (series-handled (after p c) cs (call-good p g c)))
+  series-handled p (s ∷ ss) g =
+      let q : State = afterStep p s in
+      join (uncounted p) (having q (stepLoads p s)) (having (afterAll q ss) (stepLoads p s + loadsOfAll q ss)) (stepBrings p s) (seriesBrings q ss)
+      (stepOrder p s) (orderOfAll q ss) (ap (λ (x : Shape). x .frames) (step-size p g s .shape)) (step-handled p s g)
+      (after-loads (stepLoads p s) q (afterAll q ss) (loadsOfAll q ss) _ _ (series-handled q ss (step-good p g s)))

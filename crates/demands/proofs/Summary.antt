@@ -5,27 +5,28 @@ use Rattle.demands.proofs.Demand1.{demand-1}
 use Rattle.demands.proofs.Demand2.{demand-2}
 use Rattle.demands.proofs.Demand3.{fresh, demand-3}
 use Rattle.demands.proofs.Loaded.{loaded}
-use Rattle.demands.proofs.Each.{each-load, never-victim, each-instruction, each-run}
+use Rattle.demands.proofs.Each.{each-load, never-victim, each-instruction, each-run, each-spare}
 
 every-image : EveryImage
-every-image l m e cs =
+every-image l m e ss =
     let p = loaded l m e in
-    let g = series-good (start l m) (p .good) cs in
+    let g = series-good (start l m) (p .good) ss in
     record {
       loaded = p;
       sound = g;
-      calls = demand-2 (later l m cs) g;
-      series = demand-3 _ (start l m) (record { good = p .good; frames = p .frames; empty = p .book }) cs;
+      calls = demand-2 (later l m ss) g;
+      series = demand-3 _ (start l m) (record { good = p .good; frames = p .frames; empty = p .book }) ss;
     }
 
 pub summary : Summary
 summary = record {
   demand-1 = demand-1;
   demand-2 = demand-2;
-  demand-3 = λ p g e cs. demand-3 _ p (fresh p g e) cs;
+  demand-3 = λ p g e ss. demand-3 _ p (fresh p g e) ss;
   images = every-image;
   instructions = each-instruction;
   runs = each-run;
   loads = each-load;
   last = never-victim;
+  spares = each-spare;
 }

@@ -1,5 +1,5 @@
--- "counted truly": the pages that the handler's steps bring in, along the definitions of an instruction, a run, a call and a series of
--- calls; and what such steps do to the frame book (`Steps`).
+-- "counted truly": the pages that the handler's steps bring in, along the definitions of an instruction, a run, a call and a series;
+-- and what such steps do to the frame book (`Steps`).
 use mathlib.Core.Path.{_≡_}
 use mathlib.Core.Bool.{false}
 use mathlib.Core.List.{List, [], _∷_, _++_}
@@ -7,7 +7,7 @@ use Prim.Native.Nat.{ℕ}
 use Rattle.model.specs.Frames.{advanced, resident}
 use Rattle.model.specs.State.{State}
 use Rattle.model.specs.Run.{Counted}
-use Rattle.model.specs.Series.{Call, after}
+use Rattle.model.specs.Series.{Call, SeriesStep, calls, spares, afterStep}
 use Rattle.model.specs.declared.FrameBook.{FrameBook}
 use Rattle.model.specs.declared.VirtualPage.{VirtualPage}
 use Rattle.laws.specs.Named.{alongInstruction, alongRun, alongCall}
@@ -25,9 +25,13 @@ runBrings n c = alongRun comes n c
 abbrev pub callBrings : State → Call → List VirtualPage
 callBrings p c = alongCall comes p c
 
-unfoldable pub seriesBrings : State → List Call → List VirtualPage
+unfoldable pub stepBrings : State → SeriesStep → List VirtualPage
+stepBrings p (calls c) = callBrings p c
+stepBrings p (spares x v) = []
+
+unfoldable pub seriesBrings : State → List SeriesStep → List VirtualPage
 seriesBrings p [] = []
-seriesBrings p (c ∷ cs) = callBrings p c ++ seriesBrings (after p c) cs
+seriesBrings p (s ∷ ss) = stepBrings p s ++ seriesBrings (afterStep p s) ss
 
 -- With a frames the book b becomes b′ when the pages are brought in one after another, each of them not resident then.
 pub data Steps (a : ℕ) : FrameBook → List VirtualPage → FrameBook → Type 0 where

@@ -1,12 +1,14 @@
 -- Demand 2: "Each instruction does what the virtual DLX does on one flat memory with rights, and each page moves as document 01 fixes.
 -- The host's reads and writes meet that same flat memory. Outside the frames, a call changes main memory only in the table entries
--- that a page load names." `Demand2 p` says it of every call on a machine p; `demand-2` of proofs/Demand2, of each that is sound.
+-- that a page load names", and there "only ppx and v": "bits 11–3 stay as the host put them". `Demand2 p` says it of every call on a
+-- machine p; `demand-2` of proofs/Demand2, of each that is sound.
 use mathlib.Core.Path.{_≡_}
 use mathlib.Core.List.{List, List·Memᴰ}
-use Prim.Native.Nat.{ℕ, _*_, _≤_}
+use Prim.Native.Nat.{ℕ, _*_, _<_, _≤_}
 use lib.ListN.{length, getD, take, drop}
 use Rattle.model.specs.Bytes.{page}
 use Rattle.model.specs.Pages.{entryAt}
+use Rattle.model.specs.Table.{spare, entry}
 use Rattle.model.specs.State.{State}
 use Rattle.model.specs.Run.{run}
 use Rattle.model.specs.Flat.{flat, flatInstruction}
@@ -42,5 +44,8 @@ pub record Demand2 (p : State) : Type 0 where
   -- a sound machine stays sound, refused or not; its shape stays, and the lengths of both memories
   pub sound : (c : Call) → Good (after p c)
   pub size : (c : Call) → SameSize p (after p c)
+  -- "bits 11–3 stay as the host put them", in the entry of every page of the table
+  pub spare-bits : (c : Call) (x : VirtualPage) → x .0 < p .machine .shape .ptl
+      → spare (entry (p .machine .shape) (after p c .memory .main) x) ≡ spare (entry (p .machine .shape) (p .memory .main) x)
   -- "Outside the frames, a call changes main memory only in the table entries that a page load names."
   pub outside : (c : Call) (j : ℕ) → Outside p c j → getD (after p c .memory .main) j 0 ≡ getD (p .memory .main) j 0

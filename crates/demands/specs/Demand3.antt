@@ -16,7 +16,7 @@ use Rattle.model.specs.Translate.{legal}
 use Rattle.model.specs.Flat.{Flat, allow, flat}
 use Rattle.model.specs.Order.{Demand, demandOf, orderOf}
 use Rattle.model.specs.Calls.{RunOutcome, runCall}
-use Rattle.model.specs.Series.{Call, afterAll, loadsOfAll, orderOfAll}
+use Rattle.model.specs.Series.{SeriesStep, afterAll, loadsOfAll, orderOfAll}
 use Rattle.model.specs.declared.VirtualPage.{VirtualPage}
 use Rattle.laws.specs.Good.{Good}
 use Rattle.laws.specs.Mapped.{leaves}
@@ -78,7 +78,8 @@ pub record RunServed (o : Order) (p : State) (n : ℕ) (r : RunOutcome) : Type 0
 abbrev pub RunsServed : Type 0
 RunsServed = (p : State) → Good p → (n : ℕ) → n ≤ 1000000 → RunServed leaving p n (runCall p n)
 
--- ---- any series of calls from a fresh machine with a frames; refused calls are among them
+-- ---- any series of steps from a fresh machine with a frames; refused calls are among them, and the host's changes of spare bits:
+-- "demand 3 holds also where the host changes these bits between calls"
 pub record Fresh (a : ℕ) (p : State) : Type 0 where
   pub good : Good p
   pub frames : p .machine .shape .frames ≡ a
@@ -86,13 +87,13 @@ pub record Fresh (a : ℕ) (p : State) : Type 0 where
 
 -- `bound` is the demand: no schedule on a frames, "even one that knows them all beforehand", loads less than an a-th. There are such
 -- schedules, since the machine's own loads are those of one (`own`); and `fewer` is the bound against one on h ≤ a frames.
-pub record SeriesServed (a : ℕ) (p : State) (cs : List Call) : Type 0 where
-  pub counted : loadsOfAll p cs ≡ length (seriesBrings p cs)
-  pub steps : Steps a emptyBook (seriesBrings p cs) (afterAll p cs .machine .book)
-  pub bound : (rival : Schedule a [] (orderOfAll p cs)) → loadsOfAll p cs ≤ a * brings rival
-  pub own : (rival : Schedule a [] (orderOfAll p cs)) × (brings rival ≡ loadsOfAll p cs)
-  pub fewer : (h : ℕ) → h ≤ a → (rival : Schedule h [] (orderOfAll p cs))
-      → loadsOfAll p cs * (a - h + 1) ≤ a * brings rival + a * (a - h)
+pub record SeriesServed (a : ℕ) (p : State) (ss : List SeriesStep) : Type 0 where
+  pub counted : loadsOfAll p ss ≡ length (seriesBrings p ss)
+  pub steps : Steps a emptyBook (seriesBrings p ss) (afterAll p ss .machine .book)
+  pub bound : (rival : Schedule a [] (orderOfAll p ss)) → loadsOfAll p ss ≤ a * brings rival
+  pub own : (rival : Schedule a [] (orderOfAll p ss)) × (brings rival ≡ loadsOfAll p ss)
+  pub fewer : (h : ℕ) → h ≤ a → (rival : Schedule h [] (orderOfAll p ss))
+      → loadsOfAll p ss * (a - h + 1) ≤ a * brings rival + a * (a - h)
 
 abbrev pub Demand3 : Type 0
-Demand3 = (a : ℕ) (p : State) → Fresh a p → (cs : List Call) → SeriesServed a p cs
+Demand3 = (a : ℕ) (p : State) → Fresh a p → (ss : List SeriesStep) → SeriesServed a p ss

@@ -1,29 +1,30 @@
 -- The three demands in one place: of every sound machine, of every fresh one, and of every image that loading accepts, with any series
--- of calls after it; and what holds of each instruction, each run and each load. Each line stands for a statement of this crate; the
--- theorem is `summary` of proofs/Summary. That no two outcomes fit a promise is `unique` (crates/unique).
+-- of steps after it: calls, and the host's changes of spare bits between them. And what holds of each instruction, each run, each load
+-- and each such change. Each line stands for a statement of this crate; the theorem is `summary` of proofs/Summary. That no two outcomes
+-- fit a promise is `unique` (crates/unique).
 use mathlib.Core.Path.{_≡_}
 use mathlib.Core.List.{List}
 use Prim.Native.Nat.{ℕ}
 use Rattle.model.specs.State.{Memory, State}
 use Rattle.model.specs.Image.{framesOf, meant, loadCall}
-use Rattle.model.specs.Series.{Call, afterAll}
+use Rattle.model.specs.Series.{SeriesStep, afterAll}
 use Rattle.laws.specs.Good.{Good}
 use Rattle.demands.specs.Demand1.{Demand1}
 use Rattle.demands.specs.Demand2.{Demand2}
 use Rattle.demands.specs.Demand3.{SeriesServed}
 use Rattle.demands.specs.Loaded.{LoadedFrom}
-use Rattle.demands.specs.Each.{EachLoad, NeverVictim, EachInstruction, EachRun}
+use Rattle.demands.specs.Each.{EachLoad, NeverVictim, EachInstruction, EachRun, EachSpare}
 
 -- loading the image l into the memories m is not refused
 abbrev pub Taken : List ℕ → Memory → Type 0
 Taken l m = loadCall l m .verdict .refused ≡ 0
 
--- the machine that it makes, and what a series of calls leaves of it
+-- the machine that it makes, and what a series of steps leaves of it
 abbrev pub start : List ℕ → Memory → State
 start l m = loadCall l m .state
 
-abbrev pub later : List ℕ → Memory → List Call → State
-later l m cs = afterAll (start l m) cs
+abbrev pub later : List ℕ → Memory → List SeriesStep → State
+later l m ss = afterAll (start l m) ss
 
 -- ---- every sound machine, with abase, pto and sbase as a host chose them; `Good` is what refusals 1 and 2 let through (demand 1)
 abbrev pub EverySound : Type 0
@@ -31,29 +32,30 @@ EverySound = (p : State) → Good p → Demand2 p
 
 -- ---- every fresh machine: a sound one with b = 0, so that no entry is valid
 abbrev pub EveryFresh : Type 0
-EveryFresh = (p : State) → Good p → p .machine .book .used ≡ 0 → (cs : List Call) → SeriesServed (p .machine .shape .frames) p cs
+EveryFresh = (p : State) → Good p → p .machine .book .used ≡ 0 → (ss : List SeriesStep) → SeriesServed (p .machine .shape .frames) p ss
 
--- ---- every image: its machine stands for it, is sound after the calls, and meets demands 2 and 3
-pub record Throughout (l : List ℕ) (m : Memory) (cs : List Call) : Type 0 where
+-- ---- every image: its machine stands for it, is sound after the steps, and meets demands 2 and 3
+pub record Throughout (l : List ℕ) (m : Memory) (ss : List SeriesStep) : Type 0 where
   pub loaded : LoadedFrom l m (start l m)
-  pub sound : Good (later l m cs)
-  pub calls : Demand2 (later l m cs)
-  pub series : SeriesServed (meant (framesOf l)) (start l m) cs
+  pub sound : Good (later l m ss)
+  pub calls : Demand2 (later l m ss)
+  pub series : SeriesServed (meant (framesOf l)) (start l m) ss
 
 abbrev pub EveryImage : Type 0
-EveryImage = (l : List ℕ) (m : Memory) → Taken l m → (cs : List Call) → Throughout l m cs
+EveryImage = (l : List ℕ) (m : Memory) → Taken l m → (ss : List SeriesStep) → Throughout l m ss
 
 pub record Summary : Type 0 where
   -- "No input makes it misbehave. Each refusal comes exactly when document 01 says, and changes no byte of memory and no register."
   pub demand-1 : Demand1
   -- "Each instruction does what the virtual DLX does on one flat memory with rights, and each page moves as document 01 fixes. The
   -- host's reads and writes meet that same flat memory. Outside the frames, a call changes main memory only in the table entries that
-  -- a page load names."
+  -- a page load names." There "bits 11–3 stay as the host put them."
   pub demand-2 : EverySound
   -- "From a fresh machine with a frames, over any series of run, host and reply calls, the pages loaded are counted truly and are at
-  -- most a times the loads of any other schedule for the same instructions in the same order."
+  -- most a times the loads of any other schedule for the same instructions in the same order." It "holds also where the host changes
+  -- these bits between calls."
   pub demand-3 : EveryFresh
-  -- "Loading makes P the lent main pages, a the frames, abase 1, pto 0, sbase 0.": that machine, and what any series of calls leaves
+  -- "Loading makes P the lent main pages, a the frames, abase 1, pto 0, sbase 0.": that machine, and what any series of steps leaves
   pub images : EveryImage
   -- "one that runs the first instruction and then only counts (demand 2 after each step)"; "An instruction has at most two loads.",
   -- and its pages are resident together at its end
@@ -61,7 +63,9 @@ pub record Summary : Type 0 where
   -- "one with an invented load count (it equals the handler's steps in the definition)"; "So pages leave in the order of arrival". The
   -- order of demands has one for each instruction finished, and for one that stopped after a legal fetch.
   pub runs : EachRun
-  -- "the page x = B[f] is copied whole to swap .. All other bytes stay."
+  -- "the page x = B[f] is copied whole to swap .. All other bytes stay." In both entries that it touches a load "changes only ppx and v".
   pub loads : EachLoad
   -- "and the page loaded last (MRL in 000) is never the victim", in any book with b ≤ a and hand as soundness has it
   pub last : NeverVictim
+  -- "a sound machine may hold any value there"
+  pub spares : EachSpare

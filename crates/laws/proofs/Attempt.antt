@@ -11,24 +11,21 @@ use Rattle.model.specs.Choice.{if_then_else_}
 use Rattle.model.specs.Words.{aligned}
 use Rattle.model.specs.Bytes.{number, store}
 use Rattle.model.specs.Pages.{pageOf}
-use Rattle.model.specs.Table.{entry, ppx, valid}
-use Rattle.model.specs.Frames.{pageIn}
+use Rattle.model.specs.Table.{entry, valid}
 use Rattle.model.specs.Instruction.{plan, written}
 use Rattle.model.specs.Attempt.{Tried, Width, size}
 use Rattle.model.specs.State.{State}
 use Rattle.model.specs.Translate.{translate}
 use Rattle.model.specs.Run.{try, carried}
 use Rattle.model.specs.Flat.{Flat, allow, flatBytes, flatRights, flat, flatTry, flatPut}
-use Rattle.model.specs.declared.Shape.{Shape}
-use Rattle.model.specs.declared.FrameBook.{FrameBook}
-use Rattle.model.specs.declared.VirtualPage.{VirtualPage}
 use Rattle.model.specs.declared.Pcs.{Pcs}
 use Rattle.model.specs.declared.Access.the-variants.{At}
 use Rattle.model.specs.declared.Outcome.the-variants.{Done, Missing}
-use Rattle.laws.specs.Good.{Fit, Seated, Good}
+use Rattle.laws.specs.Good.{Fit, Good}
 pub use Rattle.laws.proofs.Choice.{clash}
 use Rattle.laws.proofs.Bytes.{length-store}
-use Rattle.laws.proofs.Seated.{safe}
+use Rattle.laws.proofs.Entries.{same-place}
+use Rattle.laws.proofs.Seated.{seated-over, safe}
 use Rattle.laws.proofs.Access.{Absent, absent, legal, permits, illegal, reads}
 use Rattle.laws.proofs.Stores.{entry-kept, rights-kept, bytes-kept}
 use Rattle.laws.proofs.Agree.{address, Both, halts, misses-code, misses-data, sets, stores, traps, attempt-both}
@@ -86,19 +83,6 @@ zero-kept gpr i v z = pick (eqb i 0) refl
     pick true e = z
     pick false e = getD-set-other gpr i 0 v 0 (λ q. false≢true (sym e ∙ ap (λ (k : ℕ). eqb k 0) (sym q))) ∙ z
 
--- the facts of the table go over to a main memory with the same entries
-pub seated-over : (s : Shape) (b : FrameBook) (main main′ : List ℕ) → ((x : VirtualPage) → x .0 < s .ptl → entry s main′ x ≡ entry s main x)
-    → Seated s b main → Seated s b main′
-seated-over s b main main′ e g = record {
-  booked = g .booked;
-  in-table = g .in-table;
-  differ = g .differ;
-  rest = g .rest;
-  here = λ i q. ap valid (e (pageIn b i) (g .in-table i q)) ∙ g .here i q;
-  frame-of = λ i q. ap (λ (k : ℕ). ppx k .0) (e (pageIn b i) (g .in-table i q)) ∙ g .frame-of i q;
-  only = λ x q v. g .only x q (ap valid (sym (e x q)) ∙ v);
-}
-
 module _ (p : State) (g : Good p) (pcs : Pcs) where
   pub set-good : (i v : ℕ) → Good (carried p pcs (written (p .machine .gpr) i v) (p .memory .main))
   set-good i v = record { fit = g .fit; whole = g .whole; seated = g .seated; hand = g .hand; zero = zero-kept (p .machine .gpr) i v (g .zero) }
@@ -112,7 +96,7 @@ module _ (p : State) (g : Good p) (pcs : Pcs) where
     fit = subst⁻¹ (λ (n : ℕ). Fit (p .machine .shape) n) (length-store (size width) (p .memory .main) i v) (g .fit);
     whole = g .whole;
     seated = seated-over (p .machine .shape) (p .machine .book) (p .memory .main) (store (size width) (p .memory .main) i v)
-        (entry-kept (p .machine .shape) (p .memory .main) (safe p g) width va i v a q) (g .seated);
+        (λ x h. same-place (entry-kept (p .machine .shape) (p .memory .main) (safe p g) width va i v a q x h)) (g .seated);
     hand = g .hand;
     zero = g .zero;
   }

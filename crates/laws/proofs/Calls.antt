@@ -1,6 +1,6 @@
 -- The calls on a good machine: what is handed out and what is written, where they are granted, against the flat memory (`read-call`,
--- `view-call`, `write-call`, `reply-call`); and refused or not the machine stays good (`call-good`,
--- `series-good`) and of its shape (`call-size`).
+-- `view-call`, `write-call`, `reply-call`); and refused or not the machine stays good (`call-good`), of its shape (`call-size`), and
+-- bits 11–1 of its entries stay (`call-kept`). It stays good over any series of steps (`series-good`).
 use mathlib.Core.Path.{_≡_, refl, ap, ap₂, _∙_}
 use mathlib.Core.Bool.{true, false}
 use mathlib.Core.List.{List, [], _∷_}
@@ -13,17 +13,19 @@ use Rattle.model.specs.State.{State}
 use Rattle.model.specs.Run.{uncounted}
 use Rattle.model.specs.Flat.{Flat, flat}
 use Rattle.model.specs.Calls.{runVerdict, runBy, runCall, hostVerdict, readBy, readCall, bytesTo, writeBy, writeCall, viewVerdict, viewBy, viewCall, replyVerdict, replyBy, replyCall}
-use Rattle.model.specs.Series.{Call, runs, reads, writes, views, replies, after, afterAll}
+use Rattle.model.specs.Series.{Call, runs, reads, writes, views, replies, after, SeriesStep, calls, spares, spared, afterStep, afterAll}
 use Rattle.model.specs.declared.Machine.{Machine}
 use Rattle.model.specs.declared.VirtualPage.{VirtualPage}
 use Rattle.model.specs.declared.Verdict.{Verdict}
 use Rattle.model.specs.declared.Verdict.the-variants.{Granted, Refused}
 use Rattle.laws.specs.Good.{Good}
 use Rattle.laws.specs.Mapped.{SameSize}
+use Rattle.laws.specs.Entries.{SameKept}
 use Rattle.laws.specs.Demand2.{flatWrite, withRegister}
 use Rattle.laws.specs.Named.{Off}
 use Rattle.laws.proofs.Size.{same-size}
 use Rattle.laws.proofs.Run.{run-right}
+use Rattle.laws.proofs.Spare.{off-kept, run-kept, spared-machine, spared-good}
 use Rattle.laws.proofs.Poke.{kept-rights, kept-fit, kept-seated}
 use Rattle.laws.proofs.Host.{Wrote, wrote, sets-put, read-flat, view-flat}
 use Rattle.laws.proofs.Granted.{refused, host-inside, view-inside, reply-register}
@@ -148,8 +150,32 @@ module _ (p : State) (g : Good p) where
   pub call-size : (c : Call) → SameSize p (after p c)
   call-size c = same-size p (after p c) g (call-good c) (call-shape c)
 
--- any series of calls
-pub series-good : (p : State) → Good p → (cs : List Call) → Good (afterAll p cs)
+  -- bits 11–1 of every entry stay
+  pub call-kept : (c : Call) → SameKept p (after p c)
+  unfolding after runCall
+  call-kept (runs n) = by (runVerdict p n)
+    where
+      by : (v : Verdict) → SameKept p (runBy v p n .state)
+      by Granted = run-kept n (uncounted p) g
+      by (Refused r) = λ x q. refl
+  call-kept (reads va n) = λ x q. refl
+  call-kept (writes va bytes) = off-kept p (writeCall p va bytes .state) g (write-off va bytes)
+  call-kept (views x) = λ y q. refl
+  call-kept (replies i v) = λ x q. refl
+
+  -- ---- every step: a call, or the host's change of spare bits
+  pub step-good : (s : SeriesStep) → Good (afterStep p s)
+  unfolding afterStep
+  step-good (calls c) = call-good c
+  step-good (spares x v) = spared-good p g x v
+
+  pub step-size : (s : SeriesStep) → SameSize p (afterStep p s)
+  unfolding afterStep
+  step-size (calls c) = call-size c
+  step-size (spares x v) = same-size p (spared p x v) g (spared-good p g x v) (ap (λ m. m .shape) (spared-machine p g x v))
+
+-- any series of steps
+pub series-good : (p : State) → Good p → (ss : List SeriesStep) → Good (afterAll p ss)
 unfolding afterAll
 series-good p g [] = g
-series-good p g (c ∷ cs) = series-good (after p c) (call-good p g c) cs
+series-good p g (s ∷ ss) = series-good (afterStep p s) (step-good p g s) ss

@@ -117,14 +117,14 @@ answered-same c again again′ h = by (try (c .state) .outcome) refl
     by (Missing va) e = rw e (h va e)
     by (Stopped s) e = rw e refl
 
-attempts-spare : (k : ℕ) (c : Counted) → Enough k (c .state) → attempts (suc k) c ≡ attempts k c
+attempts-idle : (k : ℕ) (c : Counted) → Enough k (c .state) → attempts (suc k) c ≡ attempts k c
 unfolding attempts Enough
-attempts-spare zero c h = answered-same c _ _ (λ va e. absurd (h va e))
-attempts-spare (suc k) c h = answered-same c _ _ (λ va e. attempts-spare k (served c (pageOf va)) (h va e))
+attempts-idle zero c h = answered-same c _ _ (λ va e. absurd (h va e))
+attempts-idle (suc k) c h = answered-same c _ _ (λ va e. attempts-idle k (served c (pageOf va)) (h va e))
 
-pub third-spare : (c : Counted) → Good (c .state) → attempts 3 c ≡ instruction c
+pub third-idle : (c : Counted) → Good (c .state) → attempts 3 c ≡ instruction c
 unfolding instruction
-third-spare c g = attempts-spare 2 c (enough (c .state) g)
+third-idle c g = attempts-idle 2 c (enough (c .state) g)
 
 -- ---- demand 2
 pub attempts-right : (k : ℕ) (c : Counted) → Good (c .state) → Enough k (c .state) → Right c (attempts k c)

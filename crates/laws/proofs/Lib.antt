@@ -25,6 +25,7 @@ pub mod Run
 pub mod Loads
 pub mod Outside
 pub mod Frame
+pub mod Spare
 pub mod Sentences
 pub mod Formed
 pub mod Fresh

@@ -1,5 +1,5 @@
 -- One load of the handler, of a page that is in swap: the book and the table stay in step, the page is valid afterwards, only the
--- victim goes, and no flat byte, no right and no register changes.
+-- victim goes, bits 11–1 of every entry stay, and no flat byte, no right and no register changes.
 use mathlib.Core.Path.{_≡_, sym, ap, ap₂, subst⁻¹, _∙_}
 use mathlib.Core.Bool.{true, false, true≢false}
 use Prim.Native.Nat.{ℕ, _+_, _*_, _<_, _≤_}
@@ -7,18 +7,19 @@ use native.Mathlib.Omega.{arith}
 use native.Mathlib.Decide.{decLt, ℕ-discrete}
 use lib.ListN.{length}
 use Rattle.model.specs.Pages.{pageOf, virtual, frameAt}
-use Rattle.model.specs.Table.{entry, ppx, valid}
+use Rattle.model.specs.Table.{entry, ppx, valid, kept}
 use Rattle.model.specs.Frames.{pageIn, frame, advanced}
 use Rattle.model.specs.State.{Memory, State}
 use Rattle.model.specs.Translate.{flatByte}
 use Rattle.model.specs.Handler.{loaded, load}
-use Rattle.model.specs.Flat.{Flat, flat, rightsByte}
+use Rattle.model.specs.Flat.{Flat, flat}
 use Rattle.model.specs.declared.Shape.{Shape}
 use Rattle.model.specs.declared.FrameBook.{FrameBook}
 use Rattle.model.specs.declared.VirtualPage.{VirtualPage}
 use Rattle.laws.specs.Good.{Fit, SwapLong, Hand, Seated, Good}
+use Rattle.laws.specs.Entries.{Place, SameKept}
 use Rattle.laws.proofs.Choice.{below-same}
-use Rattle.laws.proofs.Entries.{ppx-brought, valid-brought, valid-out, rights-brought, rights-out}
+use Rattle.laws.proofs.Entries.{ppx-brought, ppx-out, valid-brought, valid-out, kept-brought, kept-out, same-rights}
 use Rattle.laws.proofs.Moves.{page-discrete}
 use Rattle.laws.proofs.Seats.{Seats, frame-free, frame-most, frame-used, seats}
 use Rattle.laws.proofs.Handler.{Loads, strange, moved}
@@ -32,12 +33,12 @@ pub record PageLoaded (s : Shape) (b : FrameBook) (m : Memory) (y : VirtualPage)
   pub swap-long : length (loaded s b m y .swap) ≡ length (m .swap)
   pub seated : Seated s (advanced (s .frames) b y) (loaded s b m y .main)
   pub hand : Hand (s .frames) (advanced (s .frames) b y)
-  pub here : valid (entry s (loaded s b m y .main) y) ≡ true
   pub stays : (z : VirtualPage) → z .0 < s .ptl → (z ≡ y → ⊥) → (s .frames ≤ b .used → z ≡ pageIn b (frame (s .frames) b) → ⊥)
       → entry s (loaded s b m y .main) z ≡ entry s (m .main) z
-  pub gone : s .frames ≤ b .used → valid (entry s (loaded s b m y .main) (pageIn b (frame (s .frames) b))) ≡ false
+  pub came : Place (s .abase + frame (s .frames) b) true (entry s (loaded s b m y .main) y)
+  pub left : s .frames ≤ b .used → Place 0 false (entry s (loaded s b m y .main) (pageIn b (frame (s .frames) b)))
   pub bytes : (va : ℕ) → pageOf va .0 < s .ptl → flatByte s (loaded s b m y) va ≡ flatByte s m va
-  pub rights : (z : VirtualPage) → z .0 < s .ptl → rightsByte (entry s (loaded s b m y .main) z) ≡ rightsByte (entry s (m .main) z)
+  pub bits : (z : VirtualPage) → z .0 < s .ptl → kept (entry s (loaded s b m y .main) z) ≡ kept (entry s (m .main) z)
   pub put : pageIn (advanced (s .frames) b y) (frame (s .frames) b) ≡ y
   pub in-use : frame (s .frames) b < advanced (s .frames) b y .used
   -- "the page loaded last is never the victim"
@@ -52,13 +53,18 @@ module _ (s : Shape) (b : FrameBook) (m : Memory) (h : Fit s (length (m .main)))
   module _ (b′ : FrameBook) (m′ : Memory) (f : ℕ) (hf : f < s .frames) (fresh : b .used < s .frames → f ≡ b .used) (l : Loads s b m y m′ f)
       (t : Seats (s .frames) b y b′ f) where
     -- the entry of a page that stays
-    kept : (i : ℕ) → i < b .used → (i ≡ f → ⊥) → entry s (m′ .main) (pageIn b i) ≡ entry s (m .main) (pageIn b i)
-    kept i q n =
+    still : (i : ℕ) → i < b .used → (i ≡ f → ⊥) → entry s (m′ .main) (pageIn b i) ≡ entry s (m .main) (pageIn b i)
+    still i q n =
         l .stays (pageIn b i) (g .in-table i q) (λ e. nowhere i q (sym e))
         (λ r e. n (g .differ i f q (omega (arith, r, hf)) e))
 
     valid-new : valid (entry s (m′ .main) y) ≡ true
     valid-new = ap valid (l .new) ∙ valid-brought (frameAt s f) (entry s (m .main) y)
+
+    named-new : ppx (entry s (m′ .main) y) .0 ≡ s .abase + f
+    named-new =
+        ap (λ (k : ℕ). ppx k .0) (l .new)
+        ∙ ppx-brought (frameAt s f) (entry s (m .main) y) (omega (arith, h .frames-in, h .pages-most, t .in-use, t .booked .used-most))
 
     valid-gone : s .frames ≤ b .used → valid (entry s (m′ .main) (pageIn b f)) ≡ false
     valid-gone r = ap valid (l .gone r) ∙ valid-out (entry s (m .main) (pageIn b f))
@@ -103,28 +109,26 @@ module _ (s : Shape) (b : FrameBook) (m : Memory) (h : Fit s (length (m .main)))
       in-table = at-frame (λ i z. z .0 < s .ptl) hy (λ i q n. g .in-table i q);
       differ = differ′;
       rest = λ i q r. t .stay i (λ e. omega (arith, e, t .in-use, q)) ∙ g .rest i (omega (arith, t .grown-by, q)) r;
-      here = at-frame (λ i z. valid (entry s (m′ .main) z) ≡ true) valid-new (λ i q n. ap valid (kept i q n) ∙ g .here i q);
+      here = at-frame (λ i z. valid (entry s (m′ .main) z) ≡ true) valid-new (λ i q n. ap valid (still i q n) ∙ g .here i q);
       frame-of = at-frame (λ i z. ppx (entry s (m′ .main) z) .0 ≡ s .abase + i)
-          (ap (λ (k : ℕ). ppx k .0) (l .new)
-          ∙ ppx-brought (frameAt s f) (entry s (m .main) y) (omega (arith, h .frames-in, h .pages-most, t .in-use, t .booked .used-most)))
-          (λ i q n. ap (λ (k : ℕ). ppx k .0) (kept i q n) ∙ g .frame-of i q);
+          named-new (λ i q n. ap (λ (k : ℕ). ppx k .0) (still i q n) ∙ g .frame-of i q);
       only = only′;
     }
 
-    -- "r and w stay"
-    rights′ : (z : VirtualPage) → z .0 < s .ptl → rightsByte (entry s (m′ .main) z) ≡ rightsByte (entry s (m .main) z)
-    rights′ z hz = pick (page-discrete z y) (page-discrete z (pageIn b f)) (decLt (b .used) (s .frames))
+    -- it "changes only ppx and v" in both entries
+    bits′ : (z : VirtualPage) → z .0 < s .ptl → kept (entry s (m′ .main) z) ≡ kept (entry s (m .main) z)
+    bits′ z hz = pick (page-discrete z y) (page-discrete z (pageIn b f)) (decLt (b .used) (s .frames))
       where
         pick : Dec (z ≡ y) → Dec (z ≡ pageIn b f) → Dec (b .used < s .frames)
-            → rightsByte (entry s (m′ .main) z) ≡ rightsByte (entry s (m .main) z)
+            → kept (entry s (m′ .main) z) ≡ kept (entry s (m .main) z)
         pick (yes e) d c =
-            ap (λ x. rightsByte (entry s (m′ .main) x)) e ∙ ap rightsByte (l .new) ∙ rights-brought (frameAt s f) (entry s (m .main) y)
-            ∙ ap (λ x. rightsByte (entry s (m .main) x)) (sym e)
+            ap (λ x. kept (entry s (m′ .main) x)) e ∙ ap kept (l .new) ∙ kept-brought (frameAt s f) (entry s (m .main) y)
+            ∙ ap (λ x. kept (entry s (m .main) x)) (sym e)
         pick (no n) (yes e) (no c) =
-            ap (λ x. rightsByte (entry s (m′ .main) x)) e ∙ ap rightsByte (l .gone (omega (arith, c))) ∙ rights-out (entry s (m .main) (pageIn b f))
-            ∙ ap (λ x. rightsByte (entry s (m .main) x)) (sym e)
-        pick (no n) (yes e) (yes c) = ap rightsByte (l .stays z hz n (λ q r. omega (arith, c, q)))
-        pick (no n) (no d) c = ap rightsByte (l .stays z hz n (λ q r. d r))
+            ap (λ x. kept (entry s (m′ .main) x)) e ∙ ap kept (l .gone (omega (arith, c))) ∙ kept-out (entry s (m .main) (pageIn b f))
+            ∙ ap (λ x. kept (entry s (m .main) x)) (sym e)
+        pick (no n) (yes e) (yes c) = ap kept (l .stays z hz n (λ q r. omega (arith, c, q)))
+        pick (no n) (no d) c = ap kept (l .stays z hz n (λ q r. d r))
 
   pub loads : PageLoaded s b m y
   loads = record {
@@ -132,11 +136,14 @@ module _ (s : Shape) (b : FrameBook) (m : Memory) (h : Fit s (length (m .main)))
     swap-long = l .swap-long;
     seated = seated′ b′ m′ f hf fresh l t;
     hand = t .hand;
-    here = valid-new b′ m′ f hf fresh l t;
     stays = l .stays;
-    gone = valid-gone b′ m′ f hf fresh l t;
+    came = record { names = named-new b′ m′ f hf fresh l t; there = valid-new b′ m′ f hf fresh l t };
+    left = λ r. record {
+      names = ap (λ (k : ℕ). ppx k .0) (l .gone r) ∙ ppx-out (entry s (m .main) (pageIn b f));
+      there = valid-gone b′ m′ f hf fresh l t r;
+    };
     bytes = l .bytes;
-    rights = rights′ b′ m′ f hf fresh l t;
+    bits = bits′ b′ m′ f hf fresh l t;
     put = t .put;
     in-use = t .in-use;
     moves = t .moves;
@@ -168,15 +175,22 @@ module _ (p : State) (g : Good p) (y : VirtualPage) (hy : y .0 < p .machine .sha
   one-load : PageLoaded (p .machine .shape) (p .machine .book) (p .memory) y
   one-load = loads (p .machine .shape) (p .machine .book) (p .memory) (g .fit) (g .whole) (g .seated) (g .hand) y hy hv
 
-  pub load-here : valid (entry (p .machine .shape) (load p y .memory .main) y) ≡ true
+  -- "y's entry gets ppx abase+f and v 1", and the victim's "ppx 0 and v 0"
+  pub load-came : Place (p .machine .shape .abase + frame (p .machine .shape .frames) (p .machine .book)) true
+      (entry (p .machine .shape) (load p y .memory .main) y)
   unfolding load
-  load-here = one-load .here
+  load-came = one-load .came
+
+  pub load-left : p .machine .shape .frames ≤ p .machine .book .used
+      → Place 0 false (entry (p .machine .shape) (load p y .memory .main) (pageIn (p .machine .book) (frame (p .machine .shape .frames) (p .machine .book))))
+  unfolding load
+  load-left = one-load .left
 
   -- "the page loaded last is never the victim"
-  pub load-spares : p .machine .shape .frames ≤ load p y .machine .book .used
+  pub load-remains : p .machine .shape .frames ≤ load p y .machine .book .used
       → y ≡ pageIn (load p y .machine .book) (frame (p .machine .shape .frames) (load p y .machine .book)) → ⊥
   unfolding load
-  load-spares full q =
+  load-remains full q =
       one-load .moves (one-load .seated .differ _ _ (frame-used (p .machine .shape .frames) _ (one-load .hand) full) (one-load .in-use) (sym q ∙ sym (one-load .put)))
 
   pub load-good : Good (load p y)
@@ -189,9 +203,14 @@ module _ (p : State) (g : Good p) (y : VirtualPage) (hy : y .0 < p .machine .sha
     zero = g .zero;
   }
 
+  -- "changes only ppx and v": bits 11–1 of every entry stay
+  pub load-kept : SameKept p (load p y)
+  unfolding load
+  load-kept = one-load .bits
+
   pub load-flat : flat (load p y) ≡ flat p
   unfolding load flat
   load-flat =
       ap₂ {C = Flat} (λ bytes rights. record { gpr = p .machine .gpr; pcs = p .machine .pcs; bytes = bytes; rights = rights })
       (below-same (4096 * p .machine .shape .ptl) _ _ (λ va q. one-load .bytes va (omega (arith, q))))
-      (below-same (p .machine .shape .ptl) _ _ (λ x q. one-load .rights (virtual x) q))
+      (below-same (p .machine .shape .ptl) _ _ (λ x q. same-rights _ _ (one-load .bits (virtual x) q)))

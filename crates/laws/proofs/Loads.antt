@@ -44,7 +44,7 @@ module _ (k : ℕ) (c : Counted) (g : Good (c .state)) (va : ℕ) (e : try (c .s
   unfolding load
   after-code q =
       subst (λ (v : ℕ). valid (entry (c .state .machine .shape) (load (c .state) (pageOf va) .memory .main) (pageOf v)) ≡ true) q
-      (miss-loaded (c .state) g va e .here)
+      (miss-loaded (c .state) g va e .came .there)
 
   after-data : (pcs : Pcs) → flatTry (flatOf c) .outcome ≡ Done pcs → (s : Stop) (n : ℕ) (d : Counted) → attempts k (served c (pageOf va)) ≡ stops s n d → ⊥
   after-data pcs f s n d q =

@@ -7,7 +7,7 @@ use native.Mathlib.Omega.{arith}
 use native.Mathlib.Decide.{ℕ-discrete}
 use lib.ListN.{length, getD, set, length-set}
 use lib.Seq.{getD-set-same, getD-set-other, ext-getD}
-use Rattle.model.specs.Pages.{virtual, pageOf, offset, entryAt, mainAt, swapOf, swapAt}
+use Rattle.model.specs.Pages.{virtual, pageOf, offset, mainAt, swapOf, swapAt}
 use Rattle.model.specs.Table.{entry, ppx, valid}
 use Rattle.model.specs.State.{Memory}
 use Rattle.model.specs.Translate.{flatByte}
@@ -16,13 +16,12 @@ use Rattle.model.specs.Calls.{poke}
 use Rattle.model.specs.declared.Shape.{Shape}
 use Rattle.model.specs.declared.FrameBook.{FrameBook}
 use Rattle.model.specs.declared.VirtualPage.{VirtualPage}
-use Rattle.laws.proofs.Attempt.{seated-over}
 use Rattle.laws.specs.Good.{Fit, SwapLong, Seated, Safe}
 use Rattle.laws.proofs.Choice.{length-below, below-same}
 use Rattle.laws.specs.Named.{Off}
-use Rattle.laws.proofs.Bytes.{number-same}
-use Rattle.laws.proofs.Seated.{in-frames, apart}
-use Rattle.laws.proofs.Table.{flat-here, flat-away, flat-same}
+use Rattle.laws.proofs.Entries.{same-place}
+use Rattle.laws.proofs.Seated.{in-frames, apart, seated-over}
+use Rattle.laws.proofs.Table.{entry-off, flat-here, flat-away, flat-same}
 use Rattle.laws.proofs.Access.{bytes-at}
 
 -- ---- what a host write keeps
@@ -33,10 +32,7 @@ pub record Kept (s : Shape) (m m′ : Memory) : Type 0 where
 
 module _ (s : Shape) (m m′ : Memory) (fit : Fit s (length (m .main))) (k : Kept s m m′) where
   pub kept-entry : (x : VirtualPage) → x .0 < s .ptl → entry s (m′ .main) x ≡ entry s (m .main) x
-  unfolding entry
-  kept-entry x h =
-      number-same 4 (m′ .main) (m .main) (entryAt s x) (entryAt s x)
-      (λ i r. k .off (entryAt s x + i) (λ z. absurd (omega (arith, z, fit .table-in))))
+  kept-entry = entry-off s (m .main) (m′ .main) fit (k .off)
 
   pub kept-rights : flatRights s (m′ .main) ≡ flatRights s (m .main)
   kept-rights = below-same (s .ptl) _ _ (λ x h. ap rightsByte (kept-entry (virtual x) h))
@@ -45,7 +41,7 @@ module _ (s : Shape) (m m′ : Memory) (fit : Fit s (length (m .main))) (k : Kep
   kept-fit = subst⁻¹ (λ (n : ℕ). Fit s n) (k .main-long) fit
 
   pub kept-seated : (b : FrameBook) → Seated s b (m .main) → Seated s b (m′ .main)
-  kept-seated b g = seated-over s b (m .main) (m′ .main) kept-entry g
+  kept-seated b g = seated-over s b (m .main) (m′ .main) (λ x h. same-place (kept-entry x h)) g
 
   -- a valid entry still names a frame
   pub kept-safe : Safe s (m .main) → Safe s (m′ .main)

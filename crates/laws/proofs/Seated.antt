@@ -1,4 +1,5 @@
--- What `Seated` says of a valid entry: it names a frame, and two of them name two.
+-- What `Seated` says of a valid entry: it names a frame, and two of them name two. It goes over to a table that says the same
+-- (`seated-over`).
 use mathlib.Core.Path.{_≡_, sym, ap, _∙_}
 use mathlib.Core.Bool.{true}
 use mathlib.Core.List.{List}
@@ -11,7 +12,9 @@ use Rattle.model.specs.State.{State}
 use Rattle.model.specs.declared.Shape.{Shape}
 use Rattle.model.specs.declared.FrameBook.{FrameBook}
 use Rattle.model.specs.declared.VirtualPage.{VirtualPage}
+use Rattle.model.specs.declared.MainPage.{MainPage}
 use Rattle.laws.specs.Good.{Seated, Good, Safe}
+use Rattle.laws.specs.Entries.{SamePlace}
 
 -- two page numbers that are the same number
 pub same-page : {x y : VirtualPage} → x .0 ≡ y .0 → x ≡ y
@@ -36,6 +39,19 @@ module _ (s : Shape) (b : FrameBook) (main : List ℕ) (h : Seated s b main) whe
       let u : (i : ℕ) × (i < b .used) × (pageIn b i ≡ y) = h .only y r w in
       let a : s .abase + t .0 ≡ s .abase + u .0 = sym (framed x t) ∙ e ∙ framed y u in
       sym (t .2) ∙ ap (pageIn b) (omega (arith, a)) ∙ u .2
+
+-- the facts of the table go over to a main memory whose entries name the same places
+pub seated-over : (s : Shape) (b : FrameBook) (main main′ : List ℕ) → ((x : VirtualPage) → x .0 < s .ptl → SamePlace (entry s main x) (entry s main′ x))
+    → Seated s b main → Seated s b main′
+seated-over s b main main′ e g = record {
+  booked = g .booked;
+  in-table = g .in-table;
+  differ = g .differ;
+  rest = g .rest;
+  here = λ i q. e (pageIn b i) (g .in-table i q) .there ∙ g .here i q;
+  frame-of = λ i q. ap (λ (p : MainPage). p .0) (e (pageIn b i) (g .in-table i q) .names) ∙ g .frame-of i q;
+  only = λ x q v. g .only x q (sym (e x q .there) ∙ v);
+}
 
 pub safe : (p : State) → Good p → Safe (p .machine .shape) (p .memory .main)
 safe p g = record { fit = g .fit; framed = in-frames (p .machine .shape) (p .machine .book) (p .memory .main) (g .seated) }

@@ -13,8 +13,11 @@ use Rattle.model.specs.State.{Memory}
 use Rattle.model.specs.Translate.{flatByte}
 use Rattle.model.specs.declared.Shape.{Shape}
 use Rattle.model.specs.declared.VirtualPage.{VirtualPage}
+use Rattle.model.specs.declared.MainPage.{MainPage}
 use Rattle.laws.specs.Good.{Fit}
 use Rattle.laws.specs.Named.{Off}
+use Rattle.laws.specs.Entries.{SamePlace}
+use Rattle.laws.proofs.Entries.{same-place}
 use Rattle.laws.proofs.Bytes.{number-same, number-other, number-store, store-other, length-store, withPage-other}
 
 module _ (s : Shape) (main : List ℕ) where
@@ -33,6 +36,13 @@ module _ (s : Shape) (main : List ℕ) where
   entry-page h p b x q a l e =
       number-same 4 (withPage main p b) main (entryAt s x) (entryAt s x)
       (λ k r. withPage-other main p b l e (entryAt s x + k) (λ z. absurd (omega (arith, z, h .table-in))))
+
+  -- the table lies below the frames: where main memory is the same outside them, so is every entry
+  pub entry-off : (main′ : List ℕ) → Fit s (length main) → ((j : ℕ) → Off (4096 * s .abase) (4096 * s .frames) j → getD main′ j 0 ≡ getD main j 0)
+      → (x : VirtualPage) → x .0 < s .ptl → entry s main′ x ≡ entry s main x
+  unfolding entry
+  entry-off main′ h o x q =
+      number-same 4 main′ main (entryAt s x) (entryAt s x) (λ i r. o (entryAt s x + i) (λ z. absurd (omega (arith, z, h .table-in))))
 
   -- the bytes beside an entry
   pub byte-other : (x : VirtualPage) (e i : ℕ) → Off (entryAt s x) 4 i → getD (withEntry s main x e) i 0 ≡ getD main i 0
@@ -57,16 +67,24 @@ module _ (s : Shape) (m : Memory) (va : ℕ) where
   unfolding flatByte
   flat-away e = rw (flatByte, e)
 
--- where the entry is the same, and the byte that it names
+-- where the entry names the same place, and the byte there is the same
+pub flat-placed : (s : Shape) (m m′ : Memory) (va : ℕ) → SamePlace (entry s (m .main) (pageOf va)) (entry s (m′ .main) (pageOf va))
+    → (valid (entry s (m .main) (pageOf va)) ≡ true
+    → getD (m′ .main) (mainAt (ppx (entry s (m .main) (pageOf va))) (offset va)) 0 ≡ getD (m .main) (mainAt (ppx (entry s (m .main) (pageOf va))) (offset va)) 0)
+    → (valid (entry s (m .main) (pageOf va)) ≡ false
+    → getD (m′ .swap) (swapAt (swapOf s (pageOf va)) (offset va)) 0 ≡ getD (m .swap) (swapAt (swapOf s (pageOf va)) (offset va)) 0)
+    → flatByte s m′ va ≡ flatByte s m va
+flat-placed s m m′ va e f g = pick (valid (entry s (m .main) (pageOf va))) refl
+  where
+    pick : (b : Bool) → valid (entry s (m .main) (pageOf va)) ≡ b → flatByte s m′ va ≡ flatByte s m va
+    pick true q =
+        flat-here s m′ va (e .there ∙ q) ∙ ap (λ (x : MainPage). getD (m′ .main) (mainAt x (offset va)) 0) (e .names) ∙ f q ∙ sym (flat-here s m va q)
+    pick false q = flat-away s m′ va (e .there ∙ q) ∙ g q ∙ sym (flat-away s m va q)
+
 pub flat-same : (s : Shape) (m m′ : Memory) (va : ℕ) → entry s (m′ .main) (pageOf va) ≡ entry s (m .main) (pageOf va)
     → (valid (entry s (m .main) (pageOf va)) ≡ true
     → getD (m′ .main) (mainAt (ppx (entry s (m .main) (pageOf va))) (offset va)) 0 ≡ getD (m .main) (mainAt (ppx (entry s (m .main) (pageOf va))) (offset va)) 0)
     → (valid (entry s (m .main) (pageOf va)) ≡ false
     → getD (m′ .swap) (swapAt (swapOf s (pageOf va)) (offset va)) 0 ≡ getD (m .swap) (swapAt (swapOf s (pageOf va)) (offset va)) 0)
     → flatByte s m′ va ≡ flatByte s m va
-flat-same s m m′ va e f g = pick (valid (entry s (m .main) (pageOf va))) refl
-  where
-    pick : (b : Bool) → valid (entry s (m .main) (pageOf va)) ≡ b → flatByte s m′ va ≡ flatByte s m va
-    pick true q =
-        flat-here s m′ va (ap valid e ∙ q) ∙ ap (λ (x : ℕ). getD (m′ .main) (mainAt (ppx x) (offset va)) 0) e ∙ f q ∙ sym (flat-here s m va q)
-    pick false q = flat-away s m′ va (ap valid e ∙ q) ∙ g q ∙ sym (flat-away s m va q)
+flat-same s m m′ va e = flat-placed s m m′ va (same-place e)

@@ -16,7 +16,7 @@ use Rattle.model.specs.declared.Shape.{Shape}
 use Rattle.model.specs.declared.VirtualPage.{VirtualPage}
 use Rattle.model.specs.declared.Outcome.the-variants.{Missing}
 use Rattle.laws.specs.Good.{Good}
-use Rattle.laws.proofs.Load.{PageLoaded, loads, load-good, load-flat, load-spares}
+use Rattle.laws.proofs.Load.{PageLoaded, loads, load-good, load-flat, load-remains}
 use Rattle.laws.proofs.Agree.{address}
 use Rattle.laws.proofs.Attempt.{Misses, for-code, for-data, missed, missing}
 
@@ -75,11 +75,11 @@ module _ (p : State) (g : Good p) (u : ℕ) (e : try p .outcome ≡ Missing u) (
   -- the two pages are two
   differs : pageOf u ≡ pageOf v → ⊥
   unfolding load
-  differs = other (p .machine .shape) (p₁ .memory .main) (pageOf u) (pageOf v) (l₁ .here) (missing p₁ v e′ .1)
+  differs = other (p .machine .shape) (p₁ .memory .main) (pageOf u) (pageOf v) (l₁ .came .there) (missing p₁ v e′ .1)
 
   stays : valid (entry (p .machine .shape) (load p₁ (pageOf v) .memory .main) (pageOf u)) ≡ true
   unfolding load
-  stays = ap valid (l₂ .stays (pageOf u) (missing p u e .0) differs (load-spares p g (pageOf u) (missing p u e .0) (missing p u e .1))) ∙ l₁ .here
+  stays = ap valid (l₂ .stays (pageOf u) (missing p u e .0) differs (load-remains p g (pageOf u) (missing p u e .0) (missing p u e .1))) ∙ l₁ .came .there
 
   pub third : (w : ℕ) → try (load (load p (pageOf u)) (pageOf v)) .outcome ≡ Missing w → ⊥
   unfolding load
@@ -88,7 +88,7 @@ module _ (p : State) (g : Good p) (u : ℕ) (e : try p .outcome ≡ Missing u) (
       (subst (λ f. Asks f w) (miss-flat p₁ g₁ v e′ ∙ miss-flat p g u e) (asks (load p₁ (pageOf v)) w e″))
       differs
       (other (p .machine .shape) (load p₁ (pageOf v) .memory .main) (pageOf u) (pageOf w) stays (missing (load p₁ (pageOf v)) w e″ .1))
-      (other (p .machine .shape) (load p₁ (pageOf v) .memory .main) (pageOf v) (pageOf w) (l₂ .here) (missing (load p₁ (pageOf v)) w e″ .1))
+      (other (p .machine .shape) (load p₁ (pageOf v) .memory .main) (pageOf v) (pageOf w) (l₂ .came .there) (missing (load p₁ (pageOf v)) w e″ .1))
 
 -- k loads are enough: the attempt after them misses no page
 unfoldable pub Enough : ℕ → State → Type 0

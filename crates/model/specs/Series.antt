@@ -1,7 +1,12 @@
--- A series of calls, each handed what the last one left: the state after it, the loads that it reports, and its order of demands.
+-- A series of steps, each handed what the last one left: the state after it, the loads that it reports, and its order of demands. A step
+-- is a call, or what the host does to the spare bits of an entry between calls.
+use mathlib.Core.Bool.{_&&_}
 use mathlib.Core.List.{List, [], _∷_, _++_}
 use Prim.Native.Nat.{ℕ, _+_}
-use Rattle.model.specs.State.{State}
+use lib.Dec.{ltb}
+use Rattle.model.specs.Choice.{if_then_else_}
+use Rattle.model.specs.Table.{setSpare}
+use Rattle.model.specs.State.{State, state}
 use Rattle.model.specs.Flat.{flat}
 use Rattle.model.specs.Order.{Demand, orderOf}
 use Rattle.model.specs.Calls.{runVerdict, runCall, writeCall, replyCall}
@@ -44,15 +49,38 @@ callOrder p (writes va bytes) = []
 callOrder p (views x) = []
 callOrder p (replies i v) = []
 
+-- ---- a step of a series: a call, or the host's own change of bits 11–3 of the entry of page x, "between calls"
+pub data SeriesStep : Type 0 where
+  calls : Call → SeriesStep
+  spares : (x : VirtualPage) (value : ℕ) → SeriesStep
+
+-- the page is in the table and the value has 9 bits; any other change does nothing
+unfoldable pub spared : State → VirtualPage → ℕ → State
+spared p x n =
+    if ltb (x .0) (p .machine .shape .ptl) && ltb n 512
+    then state (p .machine) (setSpare (p .machine .shape) (p .memory .main) x n) (p .memory .swap) else p
+
+unfoldable pub afterStep : State → SeriesStep → State
+afterStep p (calls c) = after p c
+afterStep p (spares x n) = spared p x n
+
+unfoldable pub stepLoads : State → SeriesStep → ℕ
+stepLoads p (calls c) = loadsOf p c
+stepLoads p (spares x n) = 0
+
+unfoldable pub stepOrder : State → SeriesStep → List Demand
+stepOrder p (calls c) = callOrder p c
+stepOrder p (spares x n) = []
+
 -- ---- of a whole series
-unfoldable pub afterAll : State → List Call → State
+unfoldable pub afterAll : State → List SeriesStep → State
 afterAll p [] = p
-afterAll p (c ∷ cs) = afterAll (after p c) cs
+afterAll p (s ∷ ss) = afterAll (afterStep p s) ss
 
-unfoldable pub loadsOfAll : State → List Call → ℕ
+unfoldable pub loadsOfAll : State → List SeriesStep → ℕ
 loadsOfAll p [] = 0
-loadsOfAll p (c ∷ cs) = loadsOf p c + loadsOfAll (after p c) cs
+loadsOfAll p (s ∷ ss) = stepLoads p s + loadsOfAll (afterStep p s) ss
 
-unfoldable pub orderOfAll : State → List Call → List Demand
+unfoldable pub orderOfAll : State → List SeriesStep → List Demand
 orderOfAll p [] = []
-orderOfAll p (c ∷ cs) = callOrder p c ++ orderOfAll (after p c) cs
+orderOfAll p (s ∷ ss) = stepOrder p s ++ orderOfAll (afterStep p s) ss

@@ -47,11 +47,11 @@ pub fn locate(s: Shape, main: &[u8], va: u32, writing: bool) -> Access
     Access::At(pages::main_at(pages::ppx(e), va))
 }
 
-// What of an entry the handler keeps: "r and w stay".
+// What of an entry the handler keeps, bits 11–1: "r and w stay", and "bits 11–3 stay as the host put them".
 fn kept(e: u32) -> u32
     ensures { λ r. ⌜ r ≡ entries.kept e ⌝ }
 {
-    2 * (e / 2 % 4)
+    2 * (e / 2 % 2048)
 }
 
 // "its entry gets ppx 0 and v 0 (r and w stay)"

@@ -8,7 +8,8 @@ use lib.ListN.{replicate}
 use Rattle.model.specs.Choice.{passes, everyBelow, listBelow}
 use Rattle.model.specs.Words.{minus, compared}
 use Rattle.model.specs.Bytes.{number, store, page, withPage}
-use Rattle.model.specs.Table.{entry, withEntry}
+use Rattle.model.specs.Pages.{virtual}
+use Rattle.model.specs.Table.{entry, withEntry, setSpare}
 use Rattle.model.specs.Frames.{advanced, among, resident, emptyBook, pageIn}
 use Rattle.model.specs.State.{State, memory}
 use Rattle.model.specs.Sound.{fits, sound}
@@ -18,6 +19,7 @@ use Rattle.model.specs.Attempt.{transfer, obeyLoad, obeyStore, obey, attempt}
 use Rattle.model.specs.Handler.{out, into, loaded, load}
 use Rattle.model.specs.Run.{follow, run, attempts, instruction}
 use Rattle.model.specs.Calls.{machineVerdict, runVerdict, RunOutcome, runCall}
+use Rattle.model.specs.Series.{spared}
 use Rattle.model.specs.Image.{trailer, rightsOf, pagesOf, known, wellFormed, imageVerdict, room, loadVerdict, invalidEntries, fresh, loadCall}
 use Rattle.model.specs.Console.{digits, consoleVerdict, consoleText}
 use Rattle.model.specs.declared.Shape.{Shape}
@@ -124,6 +126,12 @@ abbrev two-stores : State
 two-stores = machine (record { pages = 4; frames = 2; abase = 2; ptl = 3; pto = 8; sbase = 3 }) 6 (registers 7 0) 0 4
     (pages ((0xAC011000 ∷ 0xAC012000 ∷ []) ∷ [] ∷ [] ∷ []))
 
+-- the same with form numbers of the host in bits 11–3: 1, 300 and 511 for pages 0, 1 and 2; 512 does not fit, and page 3 is not in the
+-- table
+abbrev with-forms : State
+with-forms =
+    spared (spared (spared (spared (spared two-stores (virtual 0) 1) (virtual 1) 300) (virtual 2) 511) (virtual 0) 512) (virtual 3) 5
+
 -- what it comes to: its numbers, its book, the entries of pages 0, 1 and 2 and the word stored in page 2, that stored in page 1
 abbrev moved : RunOutcome → List ℕ
 moved r =
@@ -172,6 +180,9 @@ pub worked : T (every (
     ∷ (counted (runCall (fetches 4) 12) is 0 ∷ 0 ∷ 0 ∷ 12 ∷ 10 ∷ [])
     -- the host's shape: page 0 in main page 3, page 2 in main page 2, page 1 in swap page 3 + 1
     ∷ (moved (runCall two-stores 2) is 0 ∷ 0 ∷ 0 ∷ 2 ∷ 4 ∷ 2 ∷ 0 ∷ 0 ∷ (4096 * 3 + 7) ∷ 6 ∷ (4096 * 2 + 7) ∷ 7 ∷ 7 ∷ [])
+    -- the same with form numbers, which the four loads keep
+    ∷ (moved (runCall with-forms 2) is
+    0 ∷ 0 ∷ 0 ∷ 2 ∷ 4 ∷ 2 ∷ 0 ∷ 0 ∷ (4096 * 3 + 8 * 1 + 7) ∷ (8 * 300 + 6) ∷ (4096 * 2 + 8 * 511 + 7) ∷ 7 ∷ 7 ∷ [])
     -- the small image is taken, and the program prints: stop 1 5, finished 3, loads 1, dpc 12
     ∷ (loadCall image (memory (zeros 20480) (zeros 4096)) .verdict .refused ∷ [] is 0 ∷ [])
     ∷ (consoleText image is
@@ -182,7 +193,7 @@ pub worked : T (every (
     ∷ []
     ))
 unfolding
-    passes everyBelow listBelow compared number store page withPage entry withEntry advanced among resident fits sound translate plan register immediate
+    passes everyBelow listBelow compared number store page withPage entry withEntry setSpare spared advanced among resident fits sound translate plan register immediate
     transfer obeyLoad obeyStore obey attempt out into loaded load follow run attempts instruction machineVerdict runVerdict runCall
     trailer rightsOf pagesOf known wellFormed imageVerdict room loadVerdict invalidEntries fresh loadCall digits consoleVerdict consoleText
 worked = tt

@@ -1,14 +1,14 @@
 -- The table of a script's words: what each names, and which parts stand behind it.
-use mathlib.Core.List.{List, [], _∷_, _++_}
+use mathlib.Core.List.{List, [], _∷_}
 use Prim.Native.Nat.{ℕ}
 use Rattle.model.specs.Choice.{if_then_else_}
 use Rattle.record.specs.Words.{lastWord}
 use Rattle.text.specs.Reading.{same}
-use Rattle.script.specs.Vocabulary.{runWord, readWord, writeWord, viewWord, replyWord, registersWord, framesWord, sumWord, mainWord, swapWord, recordWord, lendWord}
+use Rattle.script.specs.Vocabulary.{runWord, readWord, writeWord, viewWord, replyWord, registersWord, framesWord, sumWord, mainWord, swapWord, recordWord, lendWord, spareWord}
 use Rattle.script.specs.declared.Call.{Call}
 use Rattle.script.specs.declared.Call.the-variants.{Run, Read, Write, View, Reply, Registers, Frames, Sum}
 use Rattle.script.specs.declared.Change.{Change}
-use Rattle.script.specs.declared.Change.the-variants.{Main, Swap, Record, Lend}
+use Rattle.script.specs.declared.Change.the-variants.{Main, Swap, Record, Lend, Spare}
 use Rattle.script.specs.declared.table.Word.{Word}
 use Rattle.script.specs.declared.table.Word.the-variants.{Calls, Changes, Unknown}
 use Rattle.script.specs.declared.table.Row.{Row}
@@ -40,6 +40,7 @@ changeRow Main = HexWithin mainSize  -- `main AT HEX`
 changeRow Swap = HexWithin swapSize  -- `swap AT HEX`
 changeRow Record = Two lastWord any  -- `record I V`
 changeRow Lend = Two mainSize swapSize  -- `lend M S`
+changeRow Spare = Two 1023 511  -- `spare PAGE VALUE`
 
 -- ---- what a word names: the first of the list that it is
 pub record Named : Type 0 where
@@ -55,7 +56,8 @@ firstFit w (n ∷ ns) = if same w (n .word) then n .names else firstFit w ns
 
 abbrev pub changes : List Named
 changes =
-    named mainWord (Changes Main) ∷ named swapWord (Changes Swap) ∷ named recordWord (Changes Record) ∷ named lendWord (Changes Lend) ∷ []
+    named mainWord (Changes Main) ∷ named swapWord (Changes Swap) ∷ named recordWord (Changes Record) ∷ named lendWord (Changes Lend)
+    ∷ named spareWord (Changes Spare) ∷ []
 
 abbrev pub words : List Named
 words =

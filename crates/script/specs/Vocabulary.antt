@@ -49,3 +49,7 @@ recordWord = 114 ∷ 101 ∷ 99 ∷ 111 ∷ 114 ∷ 100 ∷ []
 -- `lend`
 abbrev pub lendWord : List ℕ
 lendWord = 108 ∷ 101 ∷ 110 ∷ 100 ∷ []
+
+-- `spare`
+abbrev pub spareWord : List ℕ
+spareWord = 115 ∷ 112 ∷ 97 ∷ 114 ∷ 101 ∷ []

@@ -20,12 +20,13 @@ pub enum Call {
     Sum,
 }
 
-// The changes meet what stands there: the whole buffers, the record, how much is lent.
+// The changes meet what stands there: the whole buffers, the record, how much is lent, an entry's spare bits.
 pub enum Change {
     Main,
     Swap,
     Record,
     Lend,
+    Spare,
 }
 
 // A call or a change with its numbers; or the column of the first byte that does not fit.

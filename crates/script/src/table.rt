@@ -53,6 +53,7 @@ pub(crate) fn change_row(change: Change) -> Row
         Change::Swap => Row::HexWithin(SWAP),
         Change::Record => Row::Two(WORD, ANY),
         Change::Lend => Row::Two(MAIN, SWAP),
+        Change::Spare => Row::Two(1023, 511),
     }
 }
 
@@ -70,6 +71,9 @@ fn change_of(word: &[u8]) -> Word
     }
     if same(word, b"lend") {
         return Word::Changes(Change::Lend);
+    }
+    if same(word, b"spare") {
+        return Word::Changes(Change::Spare);
     }
     Word::Unknown
 }

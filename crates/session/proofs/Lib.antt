@@ -5,6 +5,7 @@ mod Viewed
 mod Answered
 mod Asked
 mod Spelled
+mod Sparing
 mod Telling
 pub mod Talking
 mod Begun

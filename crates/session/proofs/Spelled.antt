@@ -1,5 +1,5 @@
 -- The line of a change begins with its word (`word-spelled-at`).
-use mathlib.Core.Bool.{Bool, true, false}
+use mathlib.Core.Bool.{true}
 use mathlib.Core.Path.{_≡_, refl, sym, ap, ap₂, subst, _∙_}
 use mathlib.Core.List.{List, [], _∷_}
 use Prim.Native.Nat.{ℕ, _+_, _≤_}
@@ -10,13 +10,13 @@ use lib.ListN.{length, take}
 use Rattle.laws.proofs.Choice.{chosen, and-left, and-right}
 use Rattle.bytes.specs.Bytes.{slice, indexOf}
 use Rattle.text.specs.Reading.{same}
-use Rattle.script.specs.Vocabulary.{runWord, readWord, writeWord, viewWord, replyWord, registersWord, framesWord, sumWord, mainWord, swapWord, recordWord, lendWord}
-use Rattle.script.specs.Table.{callRow, changeRow, firstFit, changes, wordOf}
+use Rattle.script.specs.Vocabulary.{runWord, readWord, writeWord, viewWord, replyWord, registersWord, framesWord, sumWord, mainWord, swapWord, recordWord, lendWord, spareWord}
+use Rattle.script.specs.Table.{callRow, changeRow, firstFit, wordOf}
 use Rattle.script.specs.Parts.{partsOf}
 use Rattle.script.specs.Grammar.{callLine, changeLine, byWord, lineOf}
 use Rattle.script.specs.declared.Call.{Call}
 use Rattle.script.specs.declared.Change.{Change}
-use Rattle.script.specs.declared.Change.the-variants.{Main, Swap, Record, Lend}
+use Rattle.script.specs.declared.Change.the-variants.{Main, Swap, Record, Lend, Spare}
 use Rattle.script.specs.declared.parts.Numbers.{Numbers}
 use Rattle.script.specs.declared.parts.Parts.{Parts}
 use Rattle.script.specs.declared.parts.Parts.the-variants.{Fit, Unfit}
@@ -32,6 +32,7 @@ word-short Main = omega arith
 word-short Swap = omega arith
 word-short Record = omega arith
 word-short Lend = omega arith
+word-short Spare = omega arith
 
 same-is : (a b : List ℕ) → same a b ≡ true → a ≡ b
 unfolding same
@@ -61,7 +62,8 @@ word-spelled w =
     chosen (Spelled w) (same w mainWord) (λ t. same-is w mainWord t) (λ _.
     chosen (Spelled w) (same w swapWord) (λ t. same-is w swapWord t) (λ _.
     chosen (Spelled w) (same w recordWord) (λ t. same-is w recordWord t) (λ _.
-    chosen (Spelled w) (same w lendWord) (λ t. same-is w lendWord t) (λ _. tt))))))))))))
+    chosen (Spelled w) (same w lendWord) (λ t. same-is w lendWord t) (λ _.
+    chosen (Spelled w) (same w spareWord) (λ t. same-is w spareWord t) (λ _. tt)))))))))))))
 
 -- ---- the line
 module _ (l : List ℕ) where

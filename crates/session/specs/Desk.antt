@@ -2,20 +2,26 @@
 use mathlib.Core.Bool.{Bool, true, false}
 use mathlib.Core.Path.{_≡_}
 use mathlib.Core.List.{List, [], _∷_, _++_}
-use Prim.Native.Nat.{ℕ}
-use lib.ListN.{length, take, drop}
+use Prim.Native.Nat.{ℕ, _+_}
+use lib.Dec.{leb}
+use lib.ListN.{take, drop}
 use Rattle.laws.specs.Over.{over}
+use Rattle.model.specs.Choice.{if_then_else_}
 use Rattle.model.specs.State.{State, state}
+use Rattle.model.specs.Pages.{virtual, entryAt}
+use Rattle.model.specs.Table.{setSpare}
+use Rattle.model.specs.declared.Shape.{Shape}
+use Rattle.model.specs.declared.VirtualPage.{VirtualPage}
 use Rattle.model.specs.declared.Machine.{Machine}
 use Rattle.record.specs.Words.{withWord}
 use Rattle.text.specs.Text.{Appended}
 use Rattle.text.specs.Reading.{bytesOf}
 use Rattle.script.specs.Grammar.{lineOf}
-use Rattle.script.specs.Vocabulary.{mainWord, swapWord, recordWord, lendWord}
+use Rattle.script.specs.Vocabulary.{mainWord, swapWord, recordWord, lendWord, spareWord}
 use Rattle.script.specs.declared.parts.Numbers.{Numbers}
 use Rattle.script.specs.declared.Call.{Call}
 use Rattle.script.specs.declared.Change.{Change}
-use Rattle.script.specs.declared.Change.the-variants.{Main, Swap, Record, Lend}
+use Rattle.script.specs.declared.Change.the-variants.{Main, Swap, Record, Lend, Spare}
 use Rattle.script.specs.declared.Line.{Line}
 use Rattle.script.specs.declared.Line.the-variants.{Calls, Changes, Bad}
 use Rattle.session.specs.Lines.{badWord, wordLine, numbersLine}
@@ -60,18 +66,25 @@ onward d text = record { desk = d; text = text; goesOn = true }
 abbrev pub called : Desk → Answer → Spoken
 called d a = onward (handedBack d (a .state)) (a .text)
 
--- the changes: raw bytes into a buffer, a word of the record, how much is lent
+-- the changes: raw bytes into a buffer, a word of the record, how much is lent, the spare bits of an entry
 abbrev pub changeWord : Change → List ℕ
 changeWord Main = mainWord
 changeWord Swap = swapWord
 changeWord Record = recordWord
 changeWord Lend = lendWord
+changeWord Spare = spareWord
+
+-- the entry of a page with v in its spare bits; a word that does not lie in the lent bytes stays untouched
+unfoldable pub setSpareWithin : ℕ → Shape → List ℕ → VirtualPage → ℕ → List ℕ
+setSpareWithin lent s main x v = if leb (entryAt s x + 4) lent then setSpare s main x v else main
 
 unfoldable pub changed : Change → Numbers → List ℕ → Desk → Desk
 changed Main n bytes d = desk (d .standing) (over (n .first) bytes (d .main)) (d .swap)
 changed Swap n bytes d = desk (d .standing) (d .main) (over (n .first) bytes (d .swap))
 changed Record n bytes d = withStanding d (standing (withWord (d .standing .machine) (n .first) (n .second)) (d .standing .main) (d .standing .swap))
 changed Lend n bytes d = withStanding d (standing (d .standing .machine) (n .first) (n .second))
+changed Spare n bytes d =
+    desk (d .standing) (setSpareWithin (d .standing .main) (d .standing .machine .shape) (d .main) (virtual (n .first)) (n .second)) (d .swap)
 
 -- the n-th line of the script; `bad LINE COLUMN`, "and the program ends"
 abbrev pub saidTo : Call → Numbers → List ℕ → Desk → Spoken

@@ -3,6 +3,7 @@
 mod calls;
 mod fnv;
 mod lines;
+mod spare;
 mod step;
 
 use answers::refusal_number;

@@ -4,7 +4,9 @@ use crate::Told;
 use crate::calls;
 use crate::lines::hex_line;
 use crate::lines::numbers_line;
+use crate::spare::set_spare;
 use model::Machine;
+use model::VirtualPage;
 use script::Change;
 use script::Line;
 use script::parts::Numbers;
@@ -33,7 +35,7 @@ pub(crate) fn told(machine: Machine, main: usize, swap: usize, filled: usize, go
     }
 }
 
-// A change meets the buffers, the record, or how much is lent.
+// A change meets the buffers, the record, how much is lent, or an entry's spare bits.
 fn change(
     at: Standing,
     main: &mut [u8],
@@ -66,6 +68,11 @@ fn change(
             next.main = k;
             next.swap = n.second as usize;
             next
+        }
+        Change::Spare => {
+            let s = at.machine.shape;
+            set_spare(s, main, at.main, VirtualPage(n.first), n.second);
+            at
         }
     }
 }

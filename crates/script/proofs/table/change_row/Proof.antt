@@ -17,7 +17,10 @@ returns-3 c = ap changeRow (sym (c .enum-told3 .given .1))
 returns-4 : tie.Need-returns-4
 returns-4 c = ap changeRow (sym (c .enum-told4 .given .1))
 
+returns-5 : tie.Need-returns-5
+returns-5 c = ap changeRow (sym (c .enum-told5 .given .1))
+
 pub change-row-spec : {M : Type 1} → statement M
 change-row-spec =
     tie.close
-    (tie.spec (λ c. search needs) (λ c. search needs) (λ c. search needs) (λ c. search needs) returns returns-2 returns-3 returns-4)
+    (tie.spec (λ c. search needs) (λ c. search needs) (λ c. search needs) (λ c. search needs) (λ c. search needs) returns returns-2 returns-3 returns-4 returns-5)

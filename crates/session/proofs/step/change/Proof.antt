@@ -73,9 +73,29 @@ returns-4 c =
       let k = keeps-change (at-enum-told4 .enum-told4 .given .1) (a .n) _ (start .pre .3) in record { main-fits = k .0; swap-fits = k .1 },
     )
 
+set-spare-requires : tie.Need-set-spare-requires
+set-spare-requires c κs =
+    let at-enum-told5 = c .before .before in
+    let start = at-enum-told5 .before .before .before .before .before .before in
+    let k = keeps-change (at-enum-told5 .enum-told5 .given .1) (start .args .n) _ (start .pre .3) in
+    (omega (arith, start .pre .0 .main-fits, start .pre .1), k .1)
+
+returns-5 : tie.Need-returns-5
+unfolding changed
+returns-5 c =
+    let at-set-spare = c .before .before in
+    let at-enum-told5 = at-set-spare .before .before .before in
+    let start = at-enum-told5 .before .before .before .before .before .before in
+    let a = start .args in
+    let d = desk (a .at) (a .main .now) (a .swap .now) in (
+      changed-as (at-enum-told5 .enum-told5 .given .1) (a .n) (bytesOf (a .digits .now)) d
+          (ap (λ (l : List ℕ). desk (a .at) l (a .swap .now)) (at-set-spare .set-spare .ensures)),
+      start .pre .0,
+    )
+
 pub change-spec : {M : Type 1} → statement M
 change-spec =
     tie.close
     (tie.spec (λ c. search needs) (λ c. search needs) put-bytes-requires (λ c. search needs) put-bytes-requires-2
-    (λ c. search needs) (λ c κs. search needs) (λ c. search needs) (λ c. search needs) (λ c. search needs) returns
-    (λ c. search needs) returns-2 returns-3 returns-4)
+    (λ c. search needs) (λ c κs. search needs) (λ c. search needs) (λ c. search needs) (λ c. search needs) set-spare-requires
+    (λ c. search needs) returns (λ c. search needs) returns-2 returns-3 returns-4 (λ c. search needs) returns-5)

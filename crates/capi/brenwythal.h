@@ -7,6 +7,9 @@
  * changes in them by hand, the next call checks before it acts. Different machines may be used from different
  * threads at the same time, one machine by one thread at a time.
  *
+ * The page table's entry of the guest's page x is the word at pto + 4x of main memory, low byte first. Its
+ * spare bits, 11 to 3, are the host's own: no call goes by them, and only brenwythal_load changes them, to 0.
+ *
  * A slice is lent as a pointer and then a length, which counts elements: bytes of a uint8_t slice, words of a
  * uint32_t slice. The host promises of each pointer what any C function would ask:
  *   - it points to as many elements as the length says, and is aligned for them;

@@ -30,7 +30,7 @@ static inline int locate(const Machine *s, const uint8_t *m, uint32_t va, uint32
     return 1;
 }
 
-static void mark(uint8_t *p, uint32_t ppx, uint32_t v) { put(p, (word(p) & 6) | ppx << 12 | v); }
+static void mark(uint8_t *p, uint32_t ppx, uint32_t v) { put(p, (word(p) & 0xffe) | ppx << 12 | v); }
 
 __attribute__((noinline)) static void load(Machine *s, uint8_t *m, uint8_t *w, uint32_t y) {
     uint32_t f = s->used;

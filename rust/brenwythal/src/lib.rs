@@ -30,6 +30,10 @@ pub use refusal::Refusal;
 /// One page more than a main memory may have.
 const TOO_MANY: usize = 65;
 
+/// The spare bits of a table entry: the lowest of them, and the most that they hold.
+const SPARE_AT: u32 = 3;
+const MOST_SPARE: u32 = 511;
+
 /// The numbers of a console image.
 #[derive(Clone, Copy, Debug, PartialEq, Eq)]
 pub struct Image {
@@ -187,6 +191,51 @@ impl Machine {
     /// Sets register 1 to 31, as the answer to a trap. It can be refused 4.
     pub fn reply(&mut self, register: u32, value: u32) -> Result<(), Refusal> {
         Refusal::check(calls::reply(&mut self.record, register, value))
+    }
+
+    /// The spare bits of a page, 0 to 511: bits 11 to 3 of its entry in the page table. `None` if the page is
+    /// beyond the table.
+    ///
+    /// They are the host's own, to keep a form's number in, for example. No call reads them, and none but
+    /// [`Machine::load`], which begins with 0, changes them: they stay while their page is loaded and put out.
+    ///
+    /// ```
+    /// # let file = include_bytes!("../../../examples/hop.img");
+    /// # use brenwythal::Machine;
+    /// let mut machine = Machine::load(file, 3)?;
+    /// assert!(machine.set_spare(1, 417));
+    /// assert_eq!(machine.run(1000)?.loads, 206);
+    /// assert_eq!(machine.spare(1), Some(417));
+    /// # Ok::<(), brenwythal::Refusal>(())
+    /// ```
+    pub fn spare(&self, page: u32) -> Option<u16> {
+        let (_, entry) = self.entry(page)?;
+        Some((entry >> SPARE_AT & MOST_SPARE) as u16)
+    }
+
+    /// Puts a value into the [spare bits](Machine::spare) of a page, and says whether it did: a page beyond
+    /// the table, or a value above 511, changes nothing.
+    #[must_use = "false says that nothing was changed"]
+    pub fn set_spare(&mut self, page: u32, value: u16) -> bool {
+        match self.entry(page) {
+            Some((at, entry)) if u32::from(value) <= MOST_SPARE => {
+                let entry = entry & !(MOST_SPARE << SPARE_AT) | u32::from(value) << SPARE_AT;
+                self.main[at..at + 4].copy_from_slice(&entry.to_le_bytes());
+                true
+            }
+            _ => false,
+        }
+    }
+
+    /// The entry of a page, and where it stands. The record may say anything: an entry that is not wholly in
+    /// main memory is none.
+    fn entry(&self, page: u32) -> Option<(usize, u32)> {
+        if page >= self.record[PTL] {
+            return None;
+        }
+        let at = (page as usize).checked_mul(4)?.checked_add(self.record[PTO] as usize)?;
+        let bytes = self.main.get(at..at.checked_add(4)?)?;
+        Some((at, u32::from_le_bytes(bytes.try_into().ok()?)))
     }
 
     /// GPR 0 to 31.

@@ -1,7 +1,8 @@
 //! Worked values of document 01, through the wrapper.
-use brenwythal::{image, Image, Machine, Ran, Refusal, Stop, GPR, HELD, PAGE, USED};
+use brenwythal::{image, Image, Machine, Ran, Refusal, Stop, GPR, HELD, PAGE, PTL, PTO, USED};
 
 const DEPOT: &[u8] = include_bytes!("../../../examples/depot.img");
+const HOP: &[u8] = include_bytes!("../../../examples/hop.img");
 
 /// A console image of these pages, each with its rights and its first words.
 fn console(pages: &[(u8, &[u32])], start: u32, frames: u32) -> Vec<u8> {
@@ -122,6 +123,49 @@ fn refusals() {
     assert!(machine == fresh);
     assert_eq!(machine.write(4000, &[1; 96]), Ok(()));
     assert_eq!(machine.run(1_000_000).unwrap().stop, Stop::Trap(5));
+}
+
+/// "bits 11–3 stay as the host put them", and a load finds its pages by the other bits.
+#[test]
+fn spare_bits_survive_page_loads() {
+    let mut machine = Machine::load(HOP, 3).unwrap();
+    let mut plain = machine.clone();
+    let forms = [(0, 511), (1, 417), (2, 1), (3, 0x0F0)];
+    for (page, form) in forms {
+        assert_eq!(machine.spare(page), Some(0));
+        assert!(machine.set_spare(page, form));
+    }
+    for _ in 0..30 {
+        assert_eq!(machine.run(7), plain.run(7));
+        assert!(forms.iter().all(|&(page, form)| machine.spare(page) == Some(form)));
+    }
+    assert!(machine != plain);
+    assert!((0..4).all(|page| machine.set_spare(page, 0)));
+    assert!(machine == plain, "nothing else differs");
+}
+
+#[test]
+fn spare_bits_of_no_entry() {
+    let fresh = Machine::load(HOP, 3).unwrap();
+    let mut machine = fresh.clone();
+    assert!(!machine.set_spare(0, 512) && !machine.set_spare(0, u16::MAX));
+    for page in [4, 1023, 1024, 0x4000_0000, u32::MAX] {
+        assert_eq!((machine.spare(page), machine.set_spare(page, 1)), (None, false));
+    }
+    assert!(machine == fresh);
+
+    // A damaged record: entries that are not wholly in main memory, and a table as large as can be said.
+    let (record, main, swap) = fresh.into_parts();
+    for (pto, ptl, page) in
+        [(3 * PAGE as u32 - 3, 1, 0), (u32::MAX, u32::MAX, u32::MAX - 1), (0, u32::MAX, 3072)]
+    {
+        let mut record = record;
+        (record[PTO], record[PTL]) = (pto, ptl);
+        let mut damaged = Machine::from_parts(record, main.clone(), swap.clone());
+        assert_eq!((damaged.spare(page), damaged.set_spare(page, 1)), (None, false));
+        assert!(damaged == Machine::from_parts(record, main.clone(), swap.clone()));
+    }
+    assert_eq!(Machine::from_parts(record, Vec::new(), swap).spare(0), None);
 }
 
 #[test]

@@ -1,6 +1,6 @@
 //! Compares the proved library with the peer: `compare [seed] [calls]`, as the harness has it.
 #![forbid(unsafe_code)]
-use brenwythal::{calls, PAGE};
+use brenwythal::{calls, Machine, PAGE};
 use harness::{Engine, ImageAnswer, State};
 
 /// What stands in an answer or a buffer before the call, to see what the library writes there.
@@ -58,6 +58,23 @@ impl Engine for Proved {
         }
         ImageAnswer { refusal, ptl, start, frames, pages, rights }
     }
+
+    fn set_spare(&mut self, state: &mut State, page: u32, value: u16) -> bool {
+        with(state, |machine| machine.set_spare(page, value))
+    }
+
+    fn spare(&mut self, state: &mut State, page: u32) -> Option<u16> {
+        with(state, |machine| machine.spare(page))
+    }
+}
+
+/// The state as a machine of the wrapper, which owns its memories.
+fn with<T>(state: &mut State, act: impl FnOnce(&mut Machine) -> T) -> T {
+    let (main, swap) = (std::mem::take(&mut state.main), std::mem::take(&mut state.swap));
+    let mut machine = Machine::from_parts(state.words, main, swap);
+    let answer = act(&mut machine);
+    (state.words, state.main, state.swap) = machine.into_parts();
+    answer
 }
 
 fn main() -> std::io::Result<()> {
@@ -74,6 +91,7 @@ mod tests {
         let stats = compare(7, 4000, &mut Peer, &mut Proved).unwrap();
         assert!(stats.refusals.iter().all(|&count| count > 0), "{stats:?}");
         assert!(stats.stops.iter().all(|&count| count > 0), "{stats:?}");
+        assert!(stats.spares.iter().all(|&count| count > 0), "{stats:?}");
     }
 
     /// A record, an answer or a view's buffer of the wrong length is refused 1, and nothing changes.

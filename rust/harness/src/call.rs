@@ -20,6 +20,8 @@ pub enum Call {
     View(u32),
     /// Register and value.
     Reply(u32, u32),
+    /// The host's change of a page's spare bits: page and value.
+    Spare(u32, u16),
 }
 
 #[derive(Clone, Debug, PartialEq)]
@@ -29,6 +31,8 @@ pub enum Answer {
     Ran([u32; 5]),
     Bytes(u32, Vec<u8>),
     Image(ImageAnswer),
+    /// Whether the bits were changed, and what stands there then.
+    Spare(bool, Option<u16>),
 }
 
 /// The bytes of pages: noise or zeros, and words at virtual addresses.
@@ -170,6 +174,10 @@ impl Call {
                 return Answer::Bytes(refusal, bytes);
             }
             Call::Reply(register, value) => return Answer::Code(engine.reply(state, *register, *value)),
+            Call::Spare(page, value) => {
+                let done = engine.set_spare(state, *page, *value);
+                return Answer::Spare(done, engine.spare(state, *page));
+            }
         }
         Answer::Nothing
     }
@@ -201,6 +209,9 @@ impl Call {
             Call::Read(va, len) => less(*len).map(|less| Call::Read(*va, less)).collect(),
             Call::Write(va, bytes) => {
                 shorter(bytes).into_iter().map(|bytes| Call::Write(*va, bytes)).collect()
+            }
+            Call::Spare(page, value) => {
+                less((*value).into()).map(|less| Call::Spare(*page, less as u16)).collect()
             }
             Call::Image(_) | Call::View(_) | Call::Reply(..) => Vec::new(),
         }
@@ -315,6 +326,7 @@ impl fmt::Display for Call {
             Call::Write(va, bytes) => write!(f, "write va={va:#x} {bytes:02x?}"),
             Call::View(page) => write!(f, "view {page:#x}"),
             Call::Reply(register, value) => write!(f, "reply {register} {value:#x}"),
+            Call::Spare(page, value) => write!(f, "spare {page} {value}"),
         }
     }
 }

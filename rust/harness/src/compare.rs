@@ -16,6 +16,8 @@ pub struct Stats {
     pub stops: [u64; 5],
     pub finished: u64,
     pub loads: u64,
+    /// Changes of spare bits that did nothing, and those that were made.
+    pub spares: [u64; 2],
 }
 
 impl fmt::Display for Stats {
@@ -25,7 +27,9 @@ impl fmt::Display for Stats {
         writeln!(f, "{} calls in {} series: no difference", self.calls, self.series)?;
         writeln!(f, "answered {answered}, refused 1 to 7: {refused}")?;
         writeln!(f, "runs by stop 0 to 4: {}", listed(&self.stops))?;
-        write!(f, "instructions {}, page loads {}", self.finished, self.loads)
+        writeln!(f, "instructions {}, page loads {}", self.finished, self.loads)?;
+        let [nothing, made] = self.spares;
+        write!(f, "spare bits changed {made}, no such page or value {nothing}")
     }
 }
 
@@ -141,6 +145,10 @@ impl Stats {
             Answer::Code(refusal) | Answer::Bytes(refusal, _) => *refusal,
             Answer::Image(image) => image.refusal,
             Answer::Ran(ran) => ran[0],
+            Answer::Spare(done, _) => {
+                self.spares[usize::from(*done)] += 1;
+                return;
+            }
         };
         self.refusals[refusal as usize] += 1;
         if let Answer::Ran([0, stop, _, finished, loads]) = *answer {

@@ -40,6 +40,15 @@ pub trait Engine {
     fn page_view(&mut self, state: &mut State, page: u32) -> (u32, Vec<u8>);
     fn reply(&mut self, state: &mut State, register: u32, value: u32) -> u32;
     fn read_image(&mut self, image: &[u8]) -> ImageAnswer;
+    /// What the host does between calls: other bits 11–3 in the entry of a page; whether it was done. It is
+    /// no call of the machine, so an engine need not bring its own.
+    fn set_spare(&mut self, state: &mut State, page: u32, value: u16) -> bool {
+        with(state, |rec, main, _| peer::set_spare(rec, main, page, value))
+    }
+    /// These bits, or none where the page has no entry.
+    fn spare(&mut self, state: &mut State, page: u32) -> Option<u16> {
+        with(state, |rec, main, _| peer::spare(rec, main, page))
+    }
 }
 
 /// The place of `part`, which is cut from `whole`, by its address.

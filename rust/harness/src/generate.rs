@@ -34,7 +34,7 @@ impl Generator {
         if stuck && self.rng.one_in(2) {
             return self.resume(&rec);
         }
-        match self.rng.weighted(&[44, 12, 14, 6, 6, 9, 3]) {
+        match self.rng.weighted(&[44, 12, 14, 6, 6, 9, 3, 10]) {
             0 => Call::Run(self.limit(stuck)),
             1 => {
                 let len = self.length();
@@ -64,12 +64,31 @@ impl Generator {
                 self.undo.splice(0..0, edits.iter().map(|edit| edit.inverse(state)));
                 Call::Poke(edits)
             }
-            _ => {
+            6 => {
                 let ptl = self.ptl();
                 let image = self.image(ptl);
                 Call::Image(self.damaged(image))
             }
+            _ => self.spare(&rec),
         }
+    }
+
+    /// The host's change of a page's spare bits: a page that is in a frame, has code, or any other; seldom one
+    /// beyond the table, or a value of more than 9 bits.
+    fn spare(&mut self, rec: &Record) -> Call {
+        let rng = &self.rng;
+        let ptl = rec.ptl;
+        let beyond = [ptl, ptl.wrapping_add(1), 1023, 1024, 0x4000_0000, u32::MAX];
+        let (held, code) = (rec.book[rng.below(4) as usize], rng.pick(&self.starts) / 4096);
+        let inside = rng.below(ptl.max(1));
+        let page =
+            rng.pick(&[rng.pick(&beyond), ptl.wrapping_sub(1), held, held, code, code, inside, inside]);
+        let value = match rng.below(8) {
+            0 => rng.pick(&[0, 0, 1, 255, 256, 511]),
+            1 => rng.pick(&[512, 1023, 4096, 0x8000, u16::MAX.into()]),
+            _ => rng.range(1, 511),
+        };
+        Call::Spare(page, value as u16)
     }
 
     /// Lets a stopped machine go on: past the instruction, or from an entry of its program.

@@ -1,14 +1,24 @@
 //! The comparison must hold where it should, and must catch what is wrong.
+use harness::call::get_word;
 use harness::{compare, Engine, ImageAnswer, Peer, State};
 use peer::{Record, PAGE};
 
 /// What one finished instruction does to the record: its word, the record before, the record after.
 type Step = fn(u32, &Record, &mut Record);
 
-/// The peer, stepped one instruction at a time through `step`, its promises checked, or its host write wrong.
+/// What a page load makes of an entry: whether its page has left, the entry before, the entry after.
+type Touch = fn(bool, u32, u32) -> u32;
+
+/// What the host does to a page's spare bits, and whether it did it.
+type Spare = fn(&Record, &mut [u8], u32, u16) -> bool;
+
+/// The peer, stepped one instruction at a time through `step` and `touch`, its promises checked, or its host
+/// write or its host's `spare` wrong.
 #[derive(Default)]
 struct Stepped {
     step: Option<Step>,
+    touch: Option<Touch>,
+    spare: Option<Spare>,
     /// Spoil every step of this opcode, or of function (code − 64).
     code: Option<u32>,
     write_to_swap: bool,
@@ -21,11 +31,43 @@ fn word_at_dpc(state: &State) -> Option<u32> {
     Some(u32::from_le_bytes(bytes))
 }
 
+/// The entry of a page, in a machine that is sound.
+fn entry(rec: &Record, main: &[u8], page: u32) -> u32 {
+    get_word(main, (rec.pto + 4 * page) as usize)
+}
+
+fn put_entry(rec: &Record, main: &mut [u8], page: u32, word: u32) {
+    main[(rec.pto + 4 * page) as usize..][..4].copy_from_slice(&word.to_le_bytes());
+}
+
+/// An instruction, with `touch` done to the entries of the pages that it brought in or put out.
+fn touched(touch: Touch, state: &mut State) -> [u32; 5] {
+    let before = Record::from_words(&state.words);
+    let table: Vec<u32> = (0..before.ptl).map(|x| entry(&before, &state.main, x)).collect();
+    let ran = Peer.run(state, 1);
+    let after = Record::from_words(&state.words);
+    let held = |rec: &Record, x| rec.book[..rec.b as usize].contains(&x);
+    for (x, &old) in (0..).zip(&table).filter(|&(x, _)| held(&before, x) != held(&after, x)) {
+        let word = touch(held(&before, x), old, entry(&after, &state.main, x));
+        put_entry(&after, &mut state.main, x, word);
+    }
+    ran
+}
+
+/// Bits 11–3 of the whole table.
+fn spares(state: &State) -> Vec<u32> {
+    let rec = Record::from_words(&state.words);
+    (0..rec.ptl).map(|x| entry(&rec, &state.main, x) & 0xFF8).collect()
+}
+
 impl Stepped {
     fn one(&self, state: &mut State) -> [u32; 5] {
         let word = word_at_dpc(state);
         let before = Record::from_words(&state.words);
-        let ran = Peer.run(state, 1);
+        let ran = match self.touch {
+            Some(touch) => touched(touch, state),
+            None => Peer.run(state, 1),
+        };
         if let (Some(word), 1) = (word, ran[3]) {
             let mut after = Record::from_words(&state.words);
             let code = if word >> 26 == 0 { 64 + word % 64 } else { word >> 26 };
@@ -60,6 +102,7 @@ impl Engine for Stepped {
 
     fn run(&mut self, state: &mut State, limit: u32) -> [u32; 5] {
         let mut sum = if limit <= 1_000_000 { Peer.run(state, 0) } else { Peer.run(state, limit) };
+        let before = if sum[0] == 0 { spares(state) } else { Vec::new() };
         while sum[0] == 0 && sum[1] == 0 && sum[3] < limit {
             let ran = self.one(state);
             if ran[0] != 0 {
@@ -68,6 +111,7 @@ impl Engine for Stepped {
             sum = [0, ran[1], ran[2], sum[3] + ran[3], sum[4] + ran[4]];
         }
         assert!(sum[4] <= 2 * sum[3] + u32::from(sum[1] != 0));
+        assert!(sum[0] != 0 || self.touch.is_some() || spares(state) == before);
         sum
     }
 
@@ -97,6 +141,13 @@ impl Engine for Stepped {
     fn read_image(&mut self, image: &[u8]) -> ImageAnswer {
         Peer.read_image(image)
     }
+
+    fn set_spare(&mut self, state: &mut State, page: u32, value: u16) -> bool {
+        match self.spare {
+            Some(spare) => spare(&Record::from_words(&state.words), &mut state.main, page, value),
+            None => Peer.set_spare(state, page, value),
+        }
+    }
 }
 
 fn caught(seed: u64, mut wrong: Stepped) -> String {
@@ -112,6 +163,7 @@ fn the_peer_is_itself() {
     assert!(stats.refusals.iter().all(|&count| count > 50), "{stats:?}");
     assert!(stats.stops.iter().all(|&count| count > 200), "{stats:?}");
     assert!(stats.loads > 100_000 && stats.finished > 1_000_000, "{stats:?}");
+    assert!(stats.spares.iter().all(|&count| count > 500), "{stats:?}");
     assert_eq!(stats, compare(1, 40_000, &mut Peer, &mut Peer).unwrap());
 }
 
@@ -134,6 +186,49 @@ fn a_write_to_swap_while_resident_is_caught() {
     let report = caught(3, Stepped { write_to_swap: true, ..Stepped::default() });
     let lines: Vec<&str> = report.lines().filter(|line| line.starts_with("  ")).collect();
     assert!(lines.len() <= 6 && report.contains("write va="), "{report}");
+}
+
+/// A page load "changes only ppx and v", in both entries that it touches.
+#[test]
+fn wrong_entries_after_a_load_are_caught() {
+    let touches: [(&str, Touch); 6] = [
+        ("the newcomer's spare bits are cleared", |left, _, new| if left { new } else { new & !0xFF8 }),
+        ("the victim's spare bits are cleared", |left, _, new| if left { new & !0xFF8 } else { new }),
+        ("the victim keeps its ppx", |left, old, new| if left { old & !0xFFF | new & 0xFFF } else { new }),
+        ("the victim keeps v", |left, _, new| new | u32::from(left)),
+        ("bit 3 is cleared", |_, _, new| new & !8),
+        ("bit 11 is cleared", |_, _, new| new & !0x800),
+    ];
+    for (seed, (name, touch)) in (30..).zip(touches) {
+        let report = caught(seed, Stepped { touch: Some(touch), ..Stepped::default() });
+        assert!(report.starts_with("main differs"), "{name}: {report}");
+    }
+}
+
+/// The host's change touches bits 11–3 of the entry of a page in the table, and nothing else.
+#[test]
+fn wrong_changes_of_spare_bits_are_caught() {
+    let spares: [(&str, Spare); 5] = [
+        ("v is changed", |rec, main, page, value| {
+            let done = peer::set_spare(rec, main, page, value);
+            if done {
+                main[rec.pto as usize + 4 * page as usize] ^= 1;
+            }
+            done
+        }),
+        ("nothing is done", |rec, main, page, value| value < 512 && peer::spare(rec, main, page).is_some()),
+        ("a value is cut to 9 bits", |rec, main, page, value| peer::set_spare(rec, main, page, value % 512)),
+        ("a page beyond the table is taken", |rec, main, page, value| {
+            peer::set_spare(&Record { ptl: u32::MAX, ..rec.clone() }, main, page, value)
+        }),
+        ("the table is looked for at 0", |rec, main, page, value| {
+            peer::set_spare(&Record { pto: 0, ..rec.clone() }, main, page, value)
+        }),
+    ];
+    for (seed, (name, spare)) in (40..).zip(spares) {
+        let report = caught(seed, Stepped { spare: Some(spare), ..Stepped::default() });
+        assert!(report.contains("spare "), "{name}: {report}");
+    }
 }
 
 const OPCODE: fn(u32) -> u32 = |word| word >> 26;

@@ -1,4 +1,4 @@
-//! The host's calls.
+//! The host's calls, and its own bits of an entry.
 use crate::paging::{Access, Place, VirtualPage};
 use crate::{refusal, Record, MAX_TRANSFER, PAGE};
 use std::ops::Range;
@@ -50,6 +50,31 @@ pub fn reply(rec: &mut Record, register: u32, value: u32) -> Result<(), u32> {
         }
         _ => Err(refusal::RANGE),
     }
+}
+
+/// Bits 11–3 of the entry of a page, which are the host's. None where there is no such entry.
+pub fn spare(rec: &Record, main: &[u8], page: u32) -> Option<u16> {
+    let at = entry_of(rec, main, page)?;
+    Some(u16::from(main[at] >> 3) | u16::from(main[at + 1] & 15) << 5)
+}
+
+/// "the host changes these bits between calls": bits 11–3 of the entry of a page become `value`. Where there
+/// is no such entry, or the value has more than 9 bits, nothing is done, and the answer is false.
+pub fn set_spare(rec: &Record, main: &mut [u8], page: u32, value: u16) -> bool {
+    let at = match entry_of(rec, main, page) {
+        Some(at) if value < 512 => at,
+        _ => return false,
+    };
+    main[at] = (value << 3) as u8 | main[at] & 7;
+    main[at + 1] = (value >> 5) as u8 | main[at + 1] & 0xF0;
+    true
+}
+
+/// Where the entry of a page begins, if the table covers the page and all of the entry is in main memory. The
+/// record may hold anything.
+fn entry_of(rec: &Record, main: &[u8], page: u32) -> Option<usize> {
+    let at = u64::from(rec.pto) + 4 * u64::from(page);
+    (page < rec.ptl && at + 4 <= main.len() as u64).then_some(at as usize)
 }
 
 /// The refusals of a transfer, in the order 1, 2, 4, 3.

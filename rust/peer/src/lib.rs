@@ -11,7 +11,7 @@ mod paging;
 mod record;
 
 pub use cpu::{run, Ran};
-pub use host::{host_read, host_write, page_view, reply};
+pub use host::{host_read, host_write, page_view, reply, set_spare, spare};
 pub use image::{console, load, read_image, ImageInfo};
 pub use record::{Record, WORDS};
 

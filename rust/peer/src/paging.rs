@@ -40,7 +40,10 @@ pub(crate) enum Access {
     Write,
 }
 
-/// A table entry: "bits 31–12 ppx, bit 2 r, bit 1 w, bit 0 v".
+/// What a page load leaves as it is, bits 11–1: r, w, and bits 11–3, which are the host's.
+const KEPT: u32 = 0xFFE;
+
+/// A table entry: "bits 31–12 ppx, bit 2 r, bit 1 w, bit 0 v". Bits 11–3 are the host's.
 #[derive(Clone, Copy)]
 pub(crate) struct Entry(pub u32);
 
@@ -60,14 +63,14 @@ impl Entry {
         }
     }
 
-    /// The same rights, not valid, all else 0.
+    /// "its entry gets ppx 0 and v 0".
     fn absent(self) -> Self {
-        Entry(self.0 & 6)
+        Entry(self.0 & KEPT)
     }
 
-    /// The same rights, valid, in `frame`.
+    /// "y's entry gets ppx abase+f and v 1".
     fn resident(self, frame: MainPage) -> Self {
-        Entry(frame.0 << 12 | self.0 & 6 | 1)
+        Entry(frame.0 << 12 | self.0 & KEPT | 1)
     }
 }
 

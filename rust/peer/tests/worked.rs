@@ -198,6 +198,38 @@ fn an_instruction_acts_from_the_old_values() {
     assert_eq!((guest.rec.dpc, guest.rec.pcp, guest.rec.gpr[31]), (128, 68, 132));
 }
 
+/// The handler "changes only ppx and v": bits 11–1 of both entries stay, whatever ppx stood there.
+#[test]
+fn a_load_keeps_the_spare_bits() {
+    let mut guest = Guest::new(&[3, 1, 3], 2, &[]);
+    for (page, value) in [(0, 0x1FF), (1, 0x155), (2, 0x0AA)] {
+        assert_eq!(spare(&guest.rec, &guest.main, page), Some(0), "loading an image writes them 0");
+        assert!(set_spare(&guest.rec, &mut guest.main, page, value));
+        assert_eq!(spare(&guest.rec, &guest.main, page), Some(value));
+    }
+    guest.main[10..12].fill(0xF0); // a stale ppx of page 2
+    for page in [0, 1, 2] {
+        (guest.rec.dpc, guest.rec.pcp) = (4096 * page, 4096 * page + 4);
+        assert_eq!(guest.run(1).unwrap().loads, 1);
+    }
+    assert_eq!(guest.main[..12], [0x0FFEu32, 0x2AAD, 0x1557].map(u32::to_le_bytes).concat());
+}
+
+#[test]
+fn spare_bits_are_those_of_an_entry() {
+    let mut guest = Guest::new(&[3, 3], 2, &[]);
+    guest.run(1).unwrap();
+    let (rec, main) = (guest.rec, guest.main.clone());
+    let at = |pto: u32| Record { pto, ..rec.clone() };
+    let tries =
+        [(at(0), 2, 1), (at(0), u32::MAX, 1), (at(0), 0, 512), (at(24_573), 0, 1), (at(u32::MAX), 0, 1)];
+    for (rec, page, value) in tries {
+        assert!(!set_spare(&rec, &mut guest.main, page, value), "pto {} page {page} value {value}", rec.pto);
+    }
+    assert!(guest.main == main);
+    assert!(set_spare(&rec, &mut guest.main, 0, 0) && guest.main == main, "ppx, r, w and v stay");
+}
+
 #[test]
 fn refused_calls_change_nothing() {
     let mut guest = Guest::new(&[3, 1], 2, &[]);

@@ -16,6 +16,9 @@ pub fn refusal_number(r: Refusal) -> u32
         Refusal::Edition => 5,
         Refusal::Format => 6,
         Refusal::Room => 7,
+        Refusal::Mnemonic => 8,
+        Refusal::Operand => 9,
+        Refusal::Overflow => 10,
     }
 }
 

@@ -13,7 +13,7 @@ use Rattle.model.specs.Run.{uncounted, run, instruction}
 use Rattle.model.specs.Calls.{unless, machineVerdict, runVerdict, reported, runBy, runCall, permitted, hostVerdict, viewable, viewVerdict, replyVerdict}
 use Rattle.model.specs.declared.VirtualPage.{VirtualPage}
 use Rattle.model.specs.declared.Refusal.{Refusal}
-use Rattle.model.specs.declared.Refusal.the-variants.{Bound, Unsound, Rights, TooMuch, Edition, Format, Room}
+use Rattle.model.specs.declared.Refusal.the-variants.{Bound, Unsound, Rights, TooMuch, Edition, Format, Room, Mnemonic, Operand, Overflow}
 use Rattle.model.specs.declared.Verdict.{Verdict}
 use Rattle.model.specs.declared.Verdict.the-variants.{Granted, Refused}
 use Rattle.laws.specs.Good.{Good, InTable}
@@ -30,6 +30,9 @@ refused TooMuch e = absurd (omega (arith, e))
 refused Edition e = absurd (omega (arith, e))
 refused Format e = absurd (omega (arith, e))
 refused Room e = absurd (omega (arith, e))
+refused Mnemonic e = absurd (omega (arith, e))
+refused Operand e = absurd (omega (arith, e))
+refused Overflow e = absurd (omega (arith, e))
 
 pub some-number : (r : Refusal) → eqb (refusalNumber r) 0 ≡ false
 some-number r = ne-eqb (refusalNumber r) 0 (refused r)

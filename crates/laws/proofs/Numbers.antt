@@ -7,7 +7,7 @@ use Rattle.model.specs.Answers.{stopNumber, stopDetail, refusalNumber, verdictN
 use Rattle.model.specs.declared.Stop.{Stop}
 use Rattle.model.specs.declared.Stop.the-variants.{Limit, Trap, IllegalMemory, Misaligned, IllegalInstruction}
 use Rattle.model.specs.declared.Refusal.{Refusal}
-use Rattle.model.specs.declared.Refusal.the-variants.{Bound, Unsound, Rights, TooMuch, Edition, Format, Room}
+use Rattle.model.specs.declared.Refusal.the-variants.{Bound, Unsound, Rights, TooMuch, Edition, Format, Room, Mnemonic, Operand, Overflow}
 use Rattle.model.specs.declared.Verdict.{Verdict}
 use Rattle.model.specs.declared.Verdict.the-variants.{Granted, Refused}
 use Rattle.model.specs.declared.RunAnswer.{RunAnswer}
@@ -22,7 +22,8 @@ told f again back x y e = sym (back x) ∙ ap again e ∙ back y
 -- ---- the verdict and the refusal
 verdictOf : ℕ → Verdict
 verdictOf n =
-    getD (Granted ∷ Refused Bound ∷ Refused Unsound ∷ Refused Rights ∷ Refused TooMuch ∷ Refused Edition ∷ Refused Format ∷ Refused Room ∷ []) n Granted
+    getD (Granted ∷ Refused Bound ∷ Refused Unsound ∷ Refused Rights ∷ Refused TooMuch ∷ Refused Edition ∷ Refused Format ∷ Refused Room
+    ∷ Refused Mnemonic ∷ Refused Operand ∷ Refused Overflow ∷ []) n Granted
 
 verdict-again : (v : Verdict) → verdictOf (verdictNumbers v .refused) ≡ v
 unfolding verdictOf
@@ -34,6 +35,9 @@ verdict-again (Refused TooMuch) = refl
 verdict-again (Refused Edition) = refl
 verdict-again (Refused Format) = refl
 verdict-again (Refused Room) = refl
+verdict-again (Refused Mnemonic) = refl
+verdict-again (Refused Operand) = refl
+verdict-again (Refused Overflow) = refl
 
 pub verdict-told : (x y : Verdict) → verdictNumbers x ≡ verdictNumbers y → x ≡ y
 verdict-told = told verdictNumbers (λ n. verdictOf (n .refused)) verdict-again

@@ -3,7 +3,7 @@ use Prim.Native.Nat.{ℕ}
 use Rattle.model.specs.declared.Stop.{Stop}
 use Rattle.model.specs.declared.Stop.the-variants.{Limit, Trap, IllegalMemory, Misaligned, IllegalInstruction}
 use Rattle.model.specs.declared.Refusal.{Refusal}
-use Rattle.model.specs.declared.Refusal.the-variants.{Bound, Unsound, Rights, TooMuch, Edition, Format, Room}
+use Rattle.model.specs.declared.Refusal.the-variants.{Bound, Unsound, Rights, TooMuch, Edition, Format, Room, Mnemonic, Operand, Overflow}
 use Rattle.model.specs.declared.Verdict.{Verdict}
 use Rattle.model.specs.declared.Verdict.the-variants.{Granted, Refused}
 use Rattle.model.specs.declared.RunAnswer.{RunAnswer}
@@ -27,7 +27,8 @@ stopDetail (IllegalMemory va) = va
 stopDetail (Misaligned va) = va
 stopDetail (IllegalInstruction w) = w
 
--- the table of refusals, row by row
+-- the table of refusals, row by row; behind 7 those of document 02: "8 unknown mnemonic, 9 bad operand or nesting, 10 value does not
+-- fit its field or the 32 bits"
 abbrev pub refusalNumber : Refusal → ℕ
 refusalNumber Bound = 1
 refusalNumber Unsound = 2
@@ -36,6 +37,9 @@ refusalNumber TooMuch = 4
 refusalNumber Edition = 5
 refusalNumber Format = 6
 refusalNumber Room = 7
+refusalNumber Mnemonic = 8
+refusalNumber Operand = 9
+refusalNumber Overflow = 10
 
 -- what every call answers first: the number of its refusal, 0 where nothing is refused. Only `verdictNumbers` makes one.
 pub record VerdictNumbers : Type 0 where

@@ -75,7 +75,7 @@ pub enum Outcome {
     Stopped(Stop),
 }
 
-// Refusals 1 to 7.
+// Refusals 1 to 10.
 pub enum Refusal {
     Bound,
     Unsound,
@@ -84,6 +84,9 @@ pub enum Refusal {
     Edition,
     Format,
     Room,
+    Mnemonic,
+    Operand,
+    Overflow,
 }
 
 // The answer of a call that only does its work or refuses it.

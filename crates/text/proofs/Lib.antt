@@ -1,6 +1,6 @@
 pub mod Appending
 mod Stray
-mod Digits
+pub mod Digits
 mod Grouped
 pub mod Fronts
 pub mod Numbers

@@ -36,7 +36,7 @@ pub fn space_at(line: &[u8], i: usize) -> bool
     line[i] == 32
 }
 
-fn digit_at(line: &[u8], i: usize) -> bool
+pub fn digit_at(line: &[u8], i: usize) -> bool
     ensures { λ r. ⌜ r ≡ reading.isDigit (getD (now (line .entry)) i 0) ⌝ }
 {
     if line.len() <= i {

@@ -1,0 +1,1 @@
+// Theorems only: the laws of the makers' notation.

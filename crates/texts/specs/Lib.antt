@@ -1,0 +1,2 @@
+-- The worked texts.
+pub mod Texts

@@ -10,8 +10,11 @@
  * The page table's entry of the guest's page x is the word at pto + 4x of main memory, low byte first. Its
  * spare bits, 11 to 3, are the host's own: no call goes by them, and only brenwythal_load changes them, to 0.
  *
+ * The makers' calls, brenwythal_assemble and brenwythal_list, turn a text of one instruction a line into words
+ * and back; they know no machine.
+ *
  * A slice is lent as a pointer and then a length, which counts elements: bytes of a uint8_t slice, words of a
- * uint32_t slice. The host promises of each pointer what any C function would ask:
+ * uint32_t slice, sizes of a size_t slice. The host promises of each pointer what any C function would ask:
  *   - it points to as many elements as the length says, and is aligned for them;
  *   - it is never NULL, not even with length 0;
  *   - a slice that is not const overlaps no other slice of the same call.
@@ -19,9 +22,10 @@
  * is refused.
  *
  * Every call returns 0, or the number of a refusal. The first that applies is given, in the order 1, 2, 4, 3,
- * and for images 1, 5, 6, 7. A refused call changes nothing that is lent to it, with two exceptions: the
- * words of an answer become 0, and the record that brenwythal_load is to fill becomes all zeros. (Where a
- * record, an answer or a view's buffer has the wrong length, not even these change.)
+ * for images 1, 5, 6, 7, for words to list 1, 7; for a text 1, then 8 to 10 of the first bad line, then 7. A
+ * refused call changes nothing that is lent to it, with two exceptions: the words of an answer become 0 (but
+ * the line and the column of a bad line), and the record that brenwythal_load is to fill becomes all zeros.
+ * (Where a record, an answer or a view's buffer has the wrong length, not even these change.)
  *
  * A whole host. It makes an image of one page that may be read and written, puts three instructions there
  * (addi, sw, trap 5), runs it, and prints `stop 1 5, finished 3, loads 1`:
@@ -70,14 +74,19 @@ extern "C" {
 /* The numbers of the refusals, and when each is given. */
 enum {
     BRENWYTHAL_REFUSAL_BOUND = 1,    /* a shape number or a memory's length breaks its bound; or a record, an
-                                        answer or a view's buffer has the wrong length */
+                                        answer or a view's buffer has the wrong length; or bytes to list are
+                                        no whole number of words */
     BRENWYTHAL_REFUSAL_UNSOUND = 2,  /* the machine's registers, frame book and page table do not agree */
     BRENWYTHAL_REFUSAL_RIGHTS = 3,   /* a page is outside the page table, or lacks the right */
     BRENWYTHAL_REFUSAL_TOO_MUCH = 4, /* the run or the transfer is too long; the register is not 1 to 31 */
     BRENWYTHAL_REFUSAL_EDITION = 5,  /* the image is under 24 bytes, or its edition is not 1 */
     BRENWYTHAL_REFUSAL_FORMAT = 6,   /* a number of the image's trailer, a rights byte or the label's length
                                         breaks its rule */
-    BRENWYTHAL_REFUSAL_ROOM = 7      /* the lent main memory or swap does not fit the image */
+    BRENWYTHAL_REFUSAL_ROOM = 7,     /* the lent main memory or swap does not fit the image; the lent output is
+                                        shorter than the result */
+    BRENWYTHAL_REFUSAL_MNEMONIC = 8, /* a line of a text begins with no mnemonic and no number */
+    BRENWYTHAL_REFUSAL_OPERAND = 9,  /* a byte that cannot stand there, or a ninth parenthesis is opened */
+    BRENWYTHAL_REFUSAL_OVERFLOW = 10 /* a value does not fit its field, or 32 bits signed */
 };
 
 /* The length of a record in words, and where its parts begin: P, a, abase, ptl, pto, sbase, b, hand,
@@ -122,6 +131,20 @@ enum {
     BRENWYTHAL_IMAGE_PTL = 0,   /* pages: swap is to be 4096 times as many bytes */
     BRENWYTHAL_IMAGE_START = 1, /* the address of the first instruction */
     BRENWYTHAL_IMAGE_FRAMES = 2 /* frames as written, where 0 means 2: main memory has one page more, at least */
+};
+
+/* The sizes of the answer of brenwythal_assemble. */
+#define BRENWYTHAL_ASSEMBLE_ANSWER 3
+enum {
+    BRENWYTHAL_ASSEMBLE_LENGTH = 0, /* the bytes written: four for each line */
+    BRENWYTHAL_ASSEMBLE_LINE = 1,   /* the bad line, from 1 on; 0 where there is none */
+    BRENWYTHAL_ASSEMBLE_COLUMN = 2  /* its byte that is refused, from 1 on; 0 where there is none */
+};
+
+/* The sizes of the answer of brenwythal_list. */
+#define BRENWYTHAL_LIST_ANSWER 1
+enum {
+    BRENWYTHAL_LIST_LENGTH = 0 /* the bytes written: at most 18 for each word */
 };
 
 /* Reads a console image and fills an answer of BRENWYTHAL_IMAGE_ANSWER words, from which the host finds the
@@ -174,6 +197,20 @@ uint32_t brenwythal_view(const uint32_t *record, size_t record_length,
  * length) and 4. */
 uint32_t brenwythal_reply(uint32_t *record, size_t record_length,
                           uint32_t reg, uint32_t value);
+
+/* Assembles a text, one instruction or one plain number a line, into the words that begin `out`; what stands
+ * behind them there stays. Fills an answer of BRENWYTHAL_ASSEMBLE_ANSWER sizes. Refusals 1 (the answer's
+ * length), 8, 9, 10 and 7. */
+uint32_t brenwythal_assemble(const uint8_t *text, size_t text_length,
+                             uint8_t *out, size_t out_length,
+                             size_t *answer, size_t answer_length);
+
+/* Lists words, low byte first, as a text that assembles to them, a line each, into the beginning of `out`;
+ * what stands behind it there stays. Fills an answer of BRENWYTHAL_LIST_ANSWER sizes. Refusals 1 (the answer's
+ * length, or bytes that are no whole number of words) and 7. */
+uint32_t brenwythal_list(const uint8_t *words, size_t words_length,
+                         uint8_t *out, size_t out_length,
+                         size_t *answer, size_t answer_length);
 
 #ifdef __cplusplus
 }

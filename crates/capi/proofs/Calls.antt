@@ -19,6 +19,9 @@ use Rattle.model.specs.declared.RunAnswer.the-variants.{NotRun}
 use Rattle.model.specs.declared.ImageAnswer.{ImageAnswer}
 use Rattle.record.specs.Words.{recordLength, machineOf, wordsOf, withRegister}
 use Rattle.record.proofs.Words.{words-machine}
+use Rattle.notation.specs.Calls.{assembleNumbers, assembleOutcome, assembleCall, listNumbers, listOutcome, listCall}
+use Rattle.notation.specs.declared.AssembleAnswer.{AssembleAnswer}
+use Rattle.notation.specs.declared.ListAnswer.{ListAnswer}
 use Rattle.capi.specs.Calls as calls
 use Rattle.capi.proofs.Refused.{run-refused, reply-refused}
 
@@ -131,3 +134,26 @@ module _ (file answer : List ℕ) where
       → (r : ℕ) (w : List ℕ) → (r ≡ imageNumbers a .verdict .refused) × (w ≡ calls.imageWords (imageNumbers a)) → record { returned = r; answer = w } ≡ calls.image file answer
   unfolding calls.image
   image-whole e a ea r w ew = rw (ew .0, ew .1) (ap calls.imaged ea ∙ simp (eq-eqb _ _ e))
+
+-- ---- assemble and list
+module _ (given out answer : List ℕ) where
+  pub assemble-short : (length answer ≡ 3 → ⊥)
+      → record { returned = refusalNumber Bound; out = out; answer = answer } ≡ calls.assemble given out answer
+  unfolding calls.assemble
+  assemble-short n = simp (ne-eqb _ _ n)
+
+  pub assemble-whole : length answer ≡ 3 → (a : AssembleAnswer) (after : List ℕ) → assembleOutcome a after ≡ assembleCall given out
+      → (r : ℕ) (w : List ℕ) → (r ≡ assembleNumbers a .verdict .refused) × (w ≡ calls.assembleSizes (assembleNumbers a))
+      → record { returned = r; out = after; answer = w } ≡ calls.assemble given out answer
+  unfolding calls.assemble
+  assemble-whole e a after ea r w ew = rw (ew .0, ew .1) (ap calls.assembled ea ∙ simp (eq-eqb _ _ e))
+
+  pub list-short : (length answer ≡ 1 → ⊥) → record { returned = refusalNumber Bound; out = out; answer = answer } ≡ calls.list given out answer
+  unfolding calls.list
+  list-short n = simp (ne-eqb _ _ n)
+
+  pub list-whole : length answer ≡ 1 → (a : ListAnswer) (after : List ℕ) → listOutcome a after ≡ listCall given out
+      → (r : ℕ) (w : List ℕ) → (r ≡ listNumbers a .verdict .refused) × (w ≡ calls.listSizes (listNumbers a))
+      → record { returned = r; out = after; answer = w } ≡ calls.list given out answer
+  unfolding calls.list
+  list-whole e a after ea r w ew = rw (ew .0, ew .1) (ap calls.listed ea ∙ simp (eq-eqb _ _ e))

@@ -12,7 +12,12 @@ use Rattle.model.specs.declared.RunAnswer.{RunAnswer}
 use Rattle.model.specs.declared.RunAnswer.the-variants.{Ran, NotRun}
 use Rattle.model.specs.declared.ImageAnswer.{ImageAnswer}
 use Rattle.model.specs.declared.ImageAnswer.the-variants.{Image, NotImage}
-use Rattle.capi.specs.Calls.{runWords, imageWords}
+use Rattle.notation.specs.Calls.{assembleNumbers, listNumbers}
+use Rattle.notation.specs.declared.AssembleAnswer.{AssembleAnswer}
+use Rattle.notation.specs.declared.AssembleAnswer.the-variants.{Assembled, NotAssembled}
+use Rattle.notation.specs.declared.ListAnswer.{ListAnswer}
+use Rattle.notation.specs.declared.ListAnswer.the-variants.{Listed, NotListed}
+use Rattle.capi.specs.Calls.{runWords, imageWords, assembleSizes, listSizes}
 
 -- stores to every place
 pub all-set : (vs l : List ℕ) → length l ≡ length vs → sets l 0 vs ≡ vs
@@ -34,3 +39,19 @@ image a ptl start frames e w ew = (simp e, simp (e, ew))
 pub not-image : (a : ImageAnswer) (r : Refusal) → a ≡ NotImage r → (n : ℕ) → n ≡ refusalNumber r
     → (w : List ℕ) → w ≡ 0 ∷ 0 ∷ 0 ∷ [] → (n ≡ imageNumbers a .verdict .refused) × (w ≡ imageWords (imageNumbers a))
 not-image a r e n en w ew = (simp (e, en), simp (e, ew))
+
+pub assembled : (a : AssembleAnswer) (n : ℕ) → a ≡ Assembled n → (w : List ℕ) → w ≡ n ∷ 0 ∷ 0 ∷ []
+    → (0 ≡ assembleNumbers a .verdict .refused) × (w ≡ assembleSizes (assembleNumbers a))
+assembled a n e w ew = (simp e, simp (e, ew))
+
+pub not-assembled : (a : AssembleAnswer) (r : Refusal) (line column : ℕ) → a ≡ NotAssembled r line column → (n : ℕ) → n ≡ refusalNumber r
+    → (w : List ℕ) → w ≡ 0 ∷ line ∷ column ∷ [] → (n ≡ assembleNumbers a .verdict .refused) × (w ≡ assembleSizes (assembleNumbers a))
+not-assembled a r line column e n en w ew = (simp (e, en), simp (e, ew))
+
+pub listed : (a : ListAnswer) (n : ℕ) → a ≡ Listed n → (w : List ℕ) → w ≡ n ∷ []
+    → (0 ≡ listNumbers a .verdict .refused) × (w ≡ listSizes (listNumbers a))
+listed a n e w ew = (simp e, simp (e, ew))
+
+pub not-listed : (a : ListAnswer) (r : Refusal) → a ≡ NotListed r → (n : ℕ) → n ≡ refusalNumber r → (w : List ℕ) → w ≡ 0 ∷ []
+    → (n ≡ listNumbers a .verdict .refused) × (w ≡ listSizes (listNumbers a))
+not-listed a r e n en w ew = (simp (e, en), simp (e, ew))

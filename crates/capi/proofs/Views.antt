@@ -18,26 +18,16 @@ use Rattle.model.specs.Calls.{viewCall, viewVerdict, pageBytes}
 use Rattle.model.specs.declared.Shape.{Shape}
 use Rattle.model.specs.declared.Machine.{Machine}
 use Rattle.model.specs.declared.VirtualPage.{VirtualPage}
-use Rattle.model.specs.declared.Refusal.{Refusal}
-use Rattle.model.specs.declared.Refusal.the-variants.{Bound, Unsound, Rights, TooMuch, Edition, Format, Room}
+use Rattle.model.specs.declared.Refusal.the-variants.{Bound}
 use Rattle.model.specs.declared.Verdict.{Verdict}
 use Rattle.model.specs.declared.Verdict.the-variants.{Granted, Refused}
 use Rattle.laws.proofs.Bytes.{length-page}
+use Rattle.laws.proofs.Granted.{some-number}
 use Rattle.host.specs.Home.{Reachable}
 use Rattle.host.proofs.Leans.{view-leans}
 use Rattle.record.specs.Words.{recordLength, machineOf}
 use Rattle.record.proofs.Words.{length-held}
 use Rattle.capi.specs.Calls as calls
-
--- a refusal's number is not 0
-nonzero : (r : Refusal) → eqb (refusalNumber r) 0 ≡ false
-nonzero Bound = refl
-nonzero Unsound = refl
-nonzero Rights = refl
-nonzero TooMuch = refl
-nonzero Edition = refl
-nonzero Format = refl
-nonzero Room = refl
 
 length-bytes : (s : Shape) (m : Memory) (x : VirtualPage) → Reachable s (m .main) (length (m .swap)) → x .0 < s .ptl → length (pageBytes s m x) ≡ 4096
 unfolding pageBytes
@@ -67,7 +57,7 @@ module _ (p : State) (x : VirtualPage) (array : length (p .machine .book .held) 
       pick Granted e =
           let k = view-leans p array x (viewVerdict p x) refl e in
           inl (record { number = simp e; long = simp e (length-bytes (p .machine .shape) (p .memory) x (k .0) (k .1)) })
-      pick (Refused r) e = inr (record { number = simp e (nonzero r); long = simp e })
+      pick (Refused r) e = inr (record { number = simp e (some-number r); long = simp e })
 
   pub granting : 4096 ≤ length (viewCall p x .part) → Granting
   granting h = ⊎-elim (λ (g : Granting). g) (λ (g : Refusing). absurd (omega (arith, h, g .long))) either

@@ -13,6 +13,7 @@ use Rattle.model.specs.Calls.{RunOutcome, StateOutcome, ReadOutcome, ViewOutcom
 use Rattle.model.specs.Image.{loadCall, imageCall}
 use Rattle.model.specs.declared.Refusal.the-variants.{Bound}
 use Rattle.record.specs.Words.{machineOf, wordsOf, whole}
+use Rattle.notation.specs.Calls.{AssembleNumbers, AssembleOutcome, assembleCall, ListNumbers, ListOutcome, listCall}
 
 -- the machine that a host lends: the record's words and both memories
 abbrev pub lent : List ℕ → List ℕ → List ℕ → State
@@ -119,3 +120,31 @@ unfoldable pub image : List ℕ → List ℕ → Imaged
 image file answer =
     if eqb (length answer) 3 then imaged (imageCall file .numbers)
     else record { returned = refusalNumber Bound; answer = answer }
+
+-- ---- assemble, with an answer of three sizes; list, with an answer of one
+pub record Put : Type 0 where
+  pub returned : ℕ
+  pub out : List ℕ
+  pub answer : List ℕ
+
+abbrev pub assembleSizes : AssembleNumbers → List ℕ
+assembleSizes n = n .length ∷ n .line ∷ n .column ∷ []
+
+abbrev pub assembled : AssembleOutcome → Put
+assembled o = record { returned = o .numbers .verdict .refused; out = o .out; answer = assembleSizes (o .numbers) }
+
+unfoldable pub assemble : List ℕ → List ℕ → List ℕ → Put
+assemble text out answer =
+    if eqb (length answer) 3 then assembled (assembleCall text out)
+    else record { returned = refusalNumber Bound; out = out; answer = answer }
+
+abbrev pub listSizes : ListNumbers → List ℕ
+listSizes n = n .length ∷ []
+
+abbrev pub listed : ListOutcome → Put
+listed o = record { returned = o .numbers .verdict .refused; out = o .out; answer = listSizes (o .numbers) }
+
+unfoldable pub list : List ℕ → List ℕ → List ℕ → Put
+list bytes out answer =
+    if eqb (length answer) 1 then listed (listCall bytes out)
+    else record { returned = refusalNumber Bound; out = out; answer = answer }

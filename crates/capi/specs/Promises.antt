@@ -3,7 +3,7 @@
 use mathlib.Core.Path.{_≡_}
 use mathlib.Core.List.{List}
 use Prim.Native.Nat.{ℕ}
-use Rattle.capi.specs.Calls.{Machined, load, write, Ran, run, Filled, read, view, Replied, reply, Imaged, image}
+use Rattle.capi.specs.Calls.{Machined, load, write, Ran, run, Filled, read, view, Replied, reply, Imaged, image, Put, assemble, list}
 
 -- loading, of a file into both memories and a record
 abbrev pub LoadPromise : (file main swap words : List ℕ) → Machined → Type 0
@@ -32,3 +32,11 @@ ReplyPromise words register value o = o ≡ reply words register value
 -- the reader of images, with an answer
 abbrev pub ImagePromise : (file answer : List ℕ) → Imaged → Type 0
 ImagePromise file answer o = o ≡ image file answer
+
+-- assemble, of a text into an output, with an answer
+abbrev pub AssemblePromise : (text out answer : List ℕ) → Put → Type 0
+AssemblePromise text out answer o = o ≡ assemble text out answer
+
+-- list, of words into an output, with an answer
+abbrev pub ListPromise : (bytes out answer : List ℕ) → Put → Type 0
+ListPromise bytes out answer o = o ≡ list bytes out answer

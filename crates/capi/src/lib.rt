@@ -1,6 +1,7 @@
 // The calls for hosts in C and Rust, on numbers and lent slices only: brenwythal.h says what each does. None asks anything of its
 // caller, and each names its complete outcome. The crate `record` says what the words of a record are; they are written back only
 // where they may differ.
+mod answer_sizes;
 mod answer_words;
 
 use model::RunAnswer;
@@ -155,4 +156,28 @@ pub extern "C" fn brenwythal_image(file: &[u8], answer: &mut [u32]) -> u32
         return 1;
     }
     answer_words::put_image(answer, image::read(file))
+}
+
+// Assembles a maker's text into `out`. The answer: the bytes that the words take, and the line and the column of a bad line.
+#[no_mangle]
+pub extern "C" fn brenwythal_assemble(text: &[u8], out: &mut [u8], answer: &mut [usize]) -> u32
+    ensures { λ r. ⌜ promises.AssemblePromise (now (text .entry)) (now (out .entry)) (now (answer .entry))
+        (record { returned = r; out = now (out .exit); answer = now (answer .exit) }) ⌝ }
+{
+    if answer.len() != 3 {
+        return 1;
+    }
+    answer_sizes::put_assembled(answer, assembler::assemble(text, out))
+}
+
+// Lists words into `out`. The answer: the bytes that the text takes.
+#[no_mangle]
+pub extern "C" fn brenwythal_list(bytes: &[u8], out: &mut [u8], answer: &mut [usize]) -> u32
+    ensures { λ r. ⌜ promises.ListPromise (now (bytes .entry)) (now (out .entry)) (now (answer .entry))
+        (record { returned = r; out = now (out .exit); answer = now (answer .exit) }) ⌝ }
+{
+    if answer.len() != 1 {
+        return 1;
+    }
+    answer_sizes::put_listed(answer, lister::list(bytes, out))
 }

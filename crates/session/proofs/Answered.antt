@@ -8,11 +8,11 @@ use Rattle.model.specs.Console.{refusedLine, orRefused}
 use Rattle.model.specs.Calls.{RunOutcome, runOutcome}
 use Rattle.model.specs.declared.Stop.{Stop}
 use Rattle.model.specs.declared.Refusal.{Refusal}
-use Rattle.model.specs.declared.Refusal.the-variants.{Bound, Unsound, Rights, TooMuch, Edition, Format, Room}
 use Rattle.model.specs.declared.Verdict.{Verdict}
 use Rattle.model.specs.declared.Verdict.the-variants.{Granted, Refused}
 use Rattle.model.specs.declared.RunAnswer.{RunAnswer}
 use Rattle.model.specs.declared.RunAnswer.the-variants.{Ran, NotRun}
+use Rattle.laws.proofs.Granted.{some-number}
 use Rattle.script.specs.Vocabulary.{runWord}
 use Rattle.script.specs.declared.parts.Numbers.{Numbers}
 use Rattle.script.specs.declared.Call.{Call}
@@ -20,13 +20,7 @@ use Rattle.session.specs.Lines.{numbersLine}
 use Rattle.session.specs.Answers.{runText, Answer, answered, Says}
 
 refused-text : (r : Refusal) (line : List ℕ) → refusedLine (refusalNumber r) ≡ orRefused (verdictNumbers (Refused r)) line
-refused-text Bound line = refl
-refused-text Unsound line = refl
-refused-text Rights line = refl
-refused-text TooMuch line = refl
-refused-text Edition line = refl
-refused-text Format line = refl
-refused-text Room line = refl
+refused-text r line = simp (some-number r)
 
 -- a verdict v, and the number n that is printed for it
 module _ (v : Verdict) (k : VerdictNumbers) (e : verdictNumbers v ≡ k) (line : List ℕ) where

@@ -12,14 +12,17 @@ use Rattle.model.specs.declared.Verdict.{Verdict}
 use Rattle.model.specs.declared.RunResult.{RunResult}
 use Rattle.model.specs.declared.Handed.{Handed}
 use Rattle.laws.proofs.Numbers.{refusal-told, verdict-told, stop-told, run-told, image-told}
+use Rattle.notation.specs.Calls.{AssembleOutcome, assembleOutcome, assembleCall, ListOutcome, listOutcome, listCall}
+use Rattle.grammar.proofs.Numbers.{assemble-told, list-told}
 use Rattle.image.specs.Format.{answerOf}
 use Rattle.image.specs.Hand.{KeepPromise}
 use Rattle.image.specs.declared.at_hand.Image.{Image}
-use Rattle.unique.specs.Unique.{NoTwo, NoTwoFilled, NoTwoLent, NoTwoParts, NumbersTell, MachineCalls, ImageCalls, ByHand, Exported, ProgramCalls, Unique}
+use Rattle.unique.specs.Unique.{NoTwo, NoTwoFilled, NoTwoLent, NoTwoParts, NumbersTell, MachineCalls, ImageCalls, MakersCalls, ByHand, Exported, ProgramCalls, Unique}
 use Rattle.text.specs.Text.{Appended}
 use Rattle.script.specs.Grammar.{lineOf}
 use Rattle.session.specs.Desk.{Desk}
 use Rattle.session.specs.declared.Told.{Told}
+use Rattle.workshop.specs.declared.Made.{Made}
 
 -- ---- two that make one outcome
 -- what is equal to one thing
@@ -56,6 +59,16 @@ reply-same : (o : ReplyOutcome) → NoTwo (λ (r : Handed). record { verdict = v
 reply-same o r r′ e e′ =
     let q = e ∙ sym e′ in handed-same r r′ (ap (λ (p : ReplyOutcome). p .verdict) q) (ap (λ (p : ReplyOutcome). p .machine) q)
 
+assemble-same : (o : AssembleOutcome) → NoTwoFilled (λ a out. assembleOutcome a out ≡ o)
+assemble-same o a a′ out out′ e e′ =
+    let q = e ∙ sym e′ in
+    (assemble-told a a′ (ap (λ (p : AssembleOutcome). p .numbers) q), ap (λ (p : AssembleOutcome). p .out) q)
+
+list-same : (o : ListOutcome) → NoTwoFilled (λ a out. listOutcome a out ≡ o)
+list-same o a a′ out out′ e e′ =
+    let q = e ∙ sym e′ in
+    (list-told a a′ (ap (λ (p : ListOutcome). p .numbers) q), ap (λ (p : ListOutcome). p .out) q)
+
 part-same : (whole : RefT (List ℕ)) (p : Part) → NoTwoParts (PartOf whole p)
 part-same whole p r r′ e e′ = record {
   begins = ap₂ {C = ℕ × ℕ} (λ b i. (b, i)) (e .block ∙ sym (e′ .block)) (e .begins ∙ sym (e′ .begins));
@@ -69,7 +82,15 @@ keep-same file i i′ e e′ =
 
 -- ---- the promises
 numbers-tell : NumbersTell
-numbers-tell = record { refusal = refusal-told; verdict = verdict-told; stop = stop-told; run = run-told; image = image-told }
+numbers-tell = record {
+  refusal = refusal-told;
+  verdict = verdict-told;
+  stop = stop-told;
+  run = run-told;
+  image = image-told;
+  assemble = assemble-told;
+  list = list-told;
+}
 
 machine-calls : MachineCalls
 machine-calls = record {
@@ -87,6 +108,12 @@ image-calls = record {
   pages = λ file. part-same file _;
   rights = λ file. part-same file _;
   load = λ file m. state-same (loadCall file m);
+}
+
+makers-calls : MakersCalls
+makers-calls = record {
+  assemble = λ text out. assemble-same (assembleCall text out);
+  list = λ bytes out. list-same (listCall bytes out);
 }
 
 by-hand : ByHand
@@ -107,6 +134,8 @@ exported = record {
   view = λ words main swap x into. same _;
   reply = λ words register value. same _;
   image = λ file answer. same _;
+  assemble = λ text out answer. same _;
+  list = λ bytes out answer. same _;
 }
 
 -- ---- the programs
@@ -121,6 +150,15 @@ told-same : (r r′ : Told) → r .standing ≡ r′ .standing → r .filled ≡
 told-same r r′ s f g =
     ap₂ {C = Told} (λ x y. record { standing = x; filled = y; «goes_on» = r .«goes_on» }) s f
     ∙ ap {B = Told} (λ z. record { standing = r′ .standing; filled = r′ .filled; «goes_on» = z }) g
+
+-- n bytes of the output o are written, and the line x is said
+made-same : (n : ℕ) (o said x : List ℕ)
+    → NoTwoLent (λ (r : Made) after heard. (r .written ≡ n) × (after ≡ o) × Appended said 0 heard (r .said) x)
+made-same n o said x r r′ after after′ heard heard′ p q = (
+  ap₂ {C = Made} (λ y z. record { written = y; said = z }) (p .0 ∙ sym (q .0)) (same-place (p .2) (q .2)),
+  p .1 ∙ sym (q .1),
+  same-buffer (p .2) (q .2),
+)
 
 program-calls : ProgramCalls
 program-calls = record {
@@ -137,7 +175,19 @@ program-calls = record {
         ap (λ (x : Desk). x .swap) d,
         same-buffer (p .text) (q .text),
       );
+  asm = λ input out said r r′ after after′ heard heard′ p q.
+      made-same _ _ said _ r r′ after after′ heard heard′ (p .written, p .output, p .line) (q .written, q .output, q .line);
+  list = λ input out said r r′ after after′ heard heard′ p q.
+      made-same _ _ said _ r r′ after after′ heard heard′ (p .written, p .output, p .line) (q .written, q .output, q .line);
 }
 
 pub unique : Unique
-unique = record { numbers = numbers-tell; machine = machine-calls; image = image-calls; by-hand = by-hand; exported = exported; programs = program-calls }
+unique = record {
+  numbers = numbers-tell;
+  machine = machine-calls;
+  image = image-calls;
+  makers = makers-calls;
+  by-hand = by-hand;
+  exported = exported;
+  programs = program-calls;
+}

@@ -15,6 +15,10 @@ use Rattle.model.specs.declared.ImageAnswer.{ImageAnswer}
 use Rattle.model.specs.declared.VirtualPage.{VirtualPage}
 use Rattle.model.specs.declared.FrameBook.{FrameBook}
 use Rattle.model.specs.declared.Machine.{Machine}
+use Rattle.notation.specs.Calls.{assembleNumbers, listNumbers}
+use Rattle.notation.specs.Promises as notation
+use Rattle.notation.specs.declared.AssembleAnswer.{AssembleAnswer}
+use Rattle.notation.specs.declared.ListAnswer.{ListAnswer}
 use Rattle.image.specs.Hand as hand
 use Rattle.image.specs.declared.at_hand.Image.{Image}
 use Rattle.capi.specs.Promises as exported
@@ -22,8 +26,9 @@ use Rattle.program.specs.Promises.{ConsolePromise}
 use Rattle.script.specs.Promises.{ParsePromise}
 use Rattle.session.specs.Promises.{BeginPromise}
 use Rattle.session.specs.declared.Told.{Told}
+use Rattle.workshop.specs.Programs as workshop
 
--- ---- what fits a promise is one: the result alone; the result and a lent slice at exit; the result and both memories at exit
+-- ---- what fits a promise is one: the result alone; the result and a lent slice at exit; the result and two, such as both memories, at exit
 abbrev pub NoTwo : {A : Type 0} → (A → Type 0) → Type 0
 NoTwo {A = A} Promise = (r r′ : A) → Promise r → Promise r′ → r ≡ r′
 
@@ -49,6 +54,8 @@ pub record NumbersTell : Type 0 where
   pub stop : (x y : Stop) → stopNumber x ≡ stopNumber y → stopDetail x ≡ stopDetail y → x ≡ y
   pub run : (x y : RunAnswer) → runNumbers x ≡ runNumbers y → x ≡ y
   pub image : (x y : ImageAnswer) → imageNumbers x ≡ imageNumbers y → x ≡ y
+  pub assemble : (x y : AssembleAnswer) → assembleNumbers x ≡ assembleNumbers y → x ≡ y
+  pub list : (x y : ListAnswer) → listNumbers x ≡ listNumbers y → x ≡ y
 
 -- ---- the calls of the crate `machine`
 pub record MachineCalls : Type 0 where
@@ -65,6 +72,11 @@ pub record ImageCalls : Type 0 where
   pub pages : (file : RefT (List ℕ)) → NoTwoParts (promises.PagesPromise file)
   pub rights : (file : RefT (List ℕ)) → NoTwoParts (promises.RightsPromise file)
   pub load : (file : List ℕ) (m : Memory) → NoTwoLent (promises.LoadPromise file m)
+
+-- ---- those of the makers' notation, `assembler` and `lister`
+pub record MakersCalls : Type 0 where
+  pub assemble : (text out : List ℕ) → NoTwoFilled (notation.AssemblePromise text out)
+  pub list : (bytes out : List ℕ) → NoTwoFilled (notation.ListPromise bytes out)
 
 -- ---- the forms proved by hand: `image::at_hand`, and `lent::advance` with the book at exit
 pub record ByHand : Type 0 where
@@ -83,6 +95,8 @@ pub record Exported : Type 0 where
   pub view : (words main swap : List ℕ) (x : ℕ) (into : List ℕ) → NoTwo (exported.ViewPromise words main swap x into)
   pub reply : (words : List ℕ) (register value : ℕ) → NoTwo (exported.ReplyPromise words register value)
   pub image : (file answer : List ℕ) → NoTwo (exported.ImagePromise file answer)
+  pub assemble : (text out answer : List ℕ) → NoTwo (exported.AssemblePromise text out answer)
+  pub list : (bytes out answer : List ℕ) → NoTwo (exported.ListPromise bytes out answer)
 
 -- ---- what the programs stand on
 pub record ProgramCalls : Type 0 where
@@ -92,11 +106,14 @@ pub record ProgramCalls : Type 0 where
   pub begin : (file : List ℕ) (pages : ℕ) (main swap out : List ℕ) (r r′ : Told) (main₁ main₁′ swap₁ swap₁′ after after′ : List ℕ)
       → BeginPromise file pages main swap out r main₁ swap₁ after → BeginPromise file pages main swap out r′ main₁′ swap₁′ after′
       → (r ≡ r′) × (main₁ ≡ main₁′) × (swap₁ ≡ swap₁′) × (after ≡ after′)
+  pub asm : (input out said : List ℕ) → NoTwoLent (workshop.AsmPromise input out said)
+  pub list : (input out said : List ℕ) → NoTwoLent (workshop.ListPromise input out said)
 
 pub record Unique : Type 0 where
   pub numbers : NumbersTell
   pub machine : MachineCalls
   pub image : ImageCalls
+  pub makers : MakersCalls
   pub by-hand : ByHand
   pub exported : Exported
   pub programs : ProgramCalls

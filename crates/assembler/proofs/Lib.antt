@@ -1,0 +1,3 @@
+-- Laws of the two passes.
+mod Lines
+mod Passes

@@ -1,0 +1,2 @@
+-- What the two passes over a text go by.
+pub mod Passes

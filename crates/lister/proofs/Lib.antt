@@ -1,0 +1,5 @@
+-- The laws that listing in code goes by.
+mod Pieces
+mod Rows
+mod Listings
+mod Calls

@@ -1,0 +1,2 @@
+-- What the table in code is to say.
+pub mod Rows

@@ -1,0 +1,2 @@
+-- Laws of the readers of a sum.
+pub mod Ways

@@ -1,0 +1,2 @@
+-- What the readers of a sum ask of each other.
+pub mod Small

@@ -1,0 +1,2 @@
+-- What the programs `asm` and `list` promise.
+pub mod Programs

@@ -1,14 +1,19 @@
-/* The stack that each call needs, in bytes, on the image that is the argument: what stands below this program's own frame is painted,
- * and after the call the lowest byte that changed is looked for. Ends with status 1 if a call needs 4096 bytes or more. */
+/* The stack that each call needs, in bytes, on the image that is the argument, and on a text nested as deep as may be: what stands
+ * below this program's own frame is painted, and after the call the lowest byte that changed is looked for. Ends with status 1 if a call
+ * on a machine needs 4096 bytes or more, or a makers' call 8192. */
 #include <stdio.h>
 
 #include "brenwythal.h"
 
 #define DEEP 65536
-#define MOST 4096
+#define MACHINES 4096
+#define MAKERS 8192
 
 static uint8_t file[1024 + 1024 * 4097 + 24], main_memory[64 * BRENWYTHAL_PAGE], swap[1024 * BRENWYTHAL_PAGE];
 static uint8_t buffer[BRENWYTHAL_PAGE];
+static const uint8_t nested[] = "addi 1,0,((((((((7))))))))\nsw 1,-(-(-(-(-(-(-(-(64))))))))(0)\n";
+static uint8_t text[1024];
+static size_t sizes[BRENWYTHAL_ASSEMBLE_ANSWER];
 static uint32_t record[BRENWYTHAL_RECORD], about[BRENWYTHAL_IMAGE_ANSWER], answer[BRENWYTHAL_RUN_ANSWER];
 static size_t length, main_length, swap_length;
 
@@ -23,6 +28,10 @@ static uint32_t read(void) { return brenwythal_read(MACHINE, 8000, buffer, 256);
 static uint32_t write(void) { return brenwythal_write(MACHINE, 8000, buffer, 256); }
 static uint32_t view(void) { return brenwythal_view(MACHINE, 1, buffer, sizeof buffer); }
 static uint32_t reply(void) { return brenwythal_reply(record, BRENWYTHAL_RECORD, 1, 5); }
+static uint32_t assemble(void) {
+    return brenwythal_assemble(nested, sizeof nested - 1, buffer, sizeof buffer, sizes, BRENWYTHAL_ASSEMBLE_ANSWER);
+}
+static uint32_t list(void) { return brenwythal_list(buffer, 64, text, sizeof text, sizes, BRENWYTHAL_LIST_ANSWER); }
 
 static __attribute__((noinline)) size_t used(uint32_t (*call)(void), uint32_t *refused) {
     volatile uint8_t *here = __builtin_frame_address(0);
@@ -45,14 +54,17 @@ int main(int count, char **words) {
     const struct {
         const char *name;
         uint32_t (*call)(void);
-    } calls[] = {{"image", image}, {"load", load}, {"run", run}, {"read", read}, {"write", write}, {"view", view}, {"reply", reply}};
+        size_t most;
+    } calls[] = {{"image", image, MACHINES}, {"load", load, MACHINES},   {"run", run, MACHINES},
+                 {"read", read, MACHINES},   {"write", write, MACHINES}, {"view", view, MACHINES},
+                 {"reply", reply, MACHINES}, {"assemble", assemble, MAKERS}, {"list", list, MAKERS}};
     int bad = 0;
     for (size_t i = 0; i < sizeof calls / sizeof calls[0]; i++) {
         uint32_t refused;
         size_t bytes = used(calls[i].call, &refused);
         printf("%s: %zu bytes of stack\n", calls[i].name, bytes);
         if (refused != 0) printf("%s: refused %u\n", calls[i].name, (unsigned)refused);
-        bad |= refused != 0 || bytes >= MOST;
+        bad |= refused != 0 || bytes >= calls[i].most;
     }
     return bad;
 }

@@ -1,4 +1,5 @@
-//! Times the proved library beside the same machine in plain Rust (`peer`) and in C: `bench [rounds]`. The
+//! Times the proved library beside the same machine, assembler and lister in plain Rust (`peer`), and beside the
+//! machine in C: `bench [rounds]`. The
 //! contenders take turns in each round; a figure is the median over the rounds. It prints tables, and writes
 //! no file.
 #![deny(unsafe_code)]
@@ -6,6 +7,7 @@
 #[allow(unsafe_code)]
 mod contenders;
 mod guests;
+mod pages;
 
 use contenders::{contenders, cpu_time, hosts, Contender, Entry, Host};
 use guests::{fresh, guests, Guest};
@@ -21,6 +23,37 @@ fn main() {
     runs(rounds);
     println!();
     calls(rounds);
+    println!();
+    texts(rounds);
+}
+
+/// A full page of instructions, assembled and listed: into 18 bytes a word, which are always enough, and into an
+/// output that just holds the text.
+fn texts(rounds: usize) {
+    let tools = pages::tools();
+    heading("one page, µs", &tools, "");
+    let (text, page) = pages::page();
+    let times_of = |name: &str, work: &dyn Fn(&mut dyn pages::Tool)| {
+        let times = medians(rounds, &tools, |tool: fn(State) -> Box<dyn pages::Tool>| {
+            let mut tool = tool(State::default());
+            let begin = cpu_time();
+            (0..pages::TIMES).for_each(|_| work(&mut *tool));
+            (cpu_time() - begin) / f64::from(pages::TIMES) / 1e3
+        });
+        row(name, &times, "");
+    };
+    times_of("1024 lines assembled", &|tool| {
+        let mut out = [0; PAGE];
+        tool.assemble(&text, &mut out);
+        assert!(out[..] == page[..]);
+    });
+    for (name, room) in [("1024 words listed", 18 * PAGE / 4), ("the same, where they just fit", text.len())] {
+        times_of(name, &|tool| {
+            let mut out = vec![0; room];
+            tool.list(&page, &mut out);
+            assert!(out[..text.len()] == text[..]);
+        });
+    }
 }
 
 /// The guests.

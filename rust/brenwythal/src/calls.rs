@@ -74,6 +74,22 @@ mod header {
             into_length: usize,
         ) -> u32;
         pub fn brenwythal_reply(record: *mut u32, record_length: usize, reg: u32, value: u32) -> u32;
+        pub fn brenwythal_assemble(
+            text: *const u8,
+            text_length: usize,
+            out: *mut u8,
+            out_length: usize,
+            answer: *mut usize,
+            answer_length: usize,
+        ) -> u32;
+        pub fn brenwythal_list(
+            words: *const u8,
+            words_length: usize,
+            out: *mut u8,
+            out_length: usize,
+            answer: *mut usize,
+            answer_length: usize,
+        ) -> u32;
     }
 }
 
@@ -176,4 +192,34 @@ pub fn view(record: &[u32], main: &[u8], swap: &[u8], page: u32, into: &mut [u8]
 pub fn reply(record: &mut [u32], register: u32, value: u32) -> u32 {
     // SAFETY: as the head of this module says.
     unsafe { header::brenwythal_reply(record.as_mut_ptr(), record.len(), register, value) }
+}
+
+/// Fills `out` with the words of a text, and an answer of 3 sizes: length, line, column.
+pub fn assemble(text: &[u8], out: &mut [u8], answer: &mut [usize]) -> u32 {
+    // SAFETY: as the head of this module says.
+    unsafe {
+        header::brenwythal_assemble(
+            text.as_ptr(),
+            text.len(),
+            out.as_mut_ptr(),
+            out.len(),
+            answer.as_mut_ptr(),
+            answer.len(),
+        )
+    }
+}
+
+/// Fills `out` with the text of words, and an answer of 1 size: length.
+pub fn list(words: &[u8], out: &mut [u8], answer: &mut [usize]) -> u32 {
+    // SAFETY: as the head of this module says.
+    unsafe {
+        header::brenwythal_list(
+            words.as_ptr(),
+            words.len(),
+            out.as_mut_ptr(),
+            out.len(),
+            answer.as_mut_ptr(),
+            answer.len(),
+        )
+    }
 }

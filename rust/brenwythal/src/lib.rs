@@ -1,8 +1,8 @@
 //! The proved paged console machine, for hosts in Rust.
 //!
 //! [`Machine`] owns a machine's record and both of its memories and asks the library of brenwythal.h for
-//! everything that it does; this crate adds types, and no rule of its own. [`calls`] has the same calls on
-//! lent slices. The names are those of the header: BRENWYTHAL_DPC is [`DPC`], BRENWYTHAL_STOP_TRAP is
+//! everything that it does; [`assemble`] and [`list()`] are the makers' tools. This crate adds types, and no rule
+//! of its own. [`calls`] has the same calls on lent slices. The names are those of the header: BRENWYTHAL_DPC is [`DPC`], BRENWYTHAL_STOP_TRAP is
 //! [`Stop::Trap`], BRENWYTHAL_REFUSAL_BOUND is [`Refusal::Bound`].
 //!
 //! ```no_run
@@ -21,9 +21,11 @@
 #![warn(missing_docs)]
 
 pub mod calls;
+mod makers;
 mod places;
 mod refusal;
 
+pub use makers::{assemble, list, BadText};
 pub use places::*;
 pub use refusal::Refusal;
 

@@ -49,3 +49,17 @@ pub const IMAGE_PTL: usize = 0;
 pub const IMAGE_START: usize = 1;
 /// Frames as written, where 0 means 2.
 pub const IMAGE_FRAMES: usize = 2;
+
+/// The length of the answer about a text in sizes.
+pub const ASSEMBLE_ANSWER: usize = 3;
+/// The bytes written.
+pub const ASSEMBLE_LENGTH: usize = 0;
+/// The bad line, from 1 on.
+pub const ASSEMBLE_LINE: usize = 1;
+/// Its byte that is refused, from 1 on.
+pub const ASSEMBLE_COLUMN: usize = 2;
+
+/// The length of the answer about a listing in sizes.
+pub const LIST_ANSWER: usize = 1;
+/// The bytes written.
+pub const LIST_LENGTH: usize = 0;

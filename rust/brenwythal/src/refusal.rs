@@ -5,7 +5,7 @@ use std::fmt;
 #[derive(Clone, Copy, Debug, PartialEq, Eq)]
 #[non_exhaustive]
 pub enum Refusal {
-    /// 1: a shape number or a memory's length breaks its bound.
+    /// 1: a shape number or a memory's length breaks its bound; bytes to list are no whole number of words.
     Bound,
     /// 2: registers, frame book and page table do not agree.
     Unsound,
@@ -17,14 +17,20 @@ pub enum Refusal {
     Edition,
     /// 6: a number of the image's trailer, a rights byte or the label's length breaks its rule.
     Format,
-    /// 7: main memory or swap does not fit the image.
+    /// 7: main memory or swap does not fit the image, or the result does not fit the lent output.
     Room,
+    /// 8: a line of a text begins with no mnemonic and no number.
+    Mnemonic,
+    /// 9: a byte of a text cannot stand there, or a ninth parenthesis is opened.
+    Operand,
+    /// 10: a value of a text does not fit its field, or 32 bits signed.
+    Overflow,
     /// A refusal that this wrapper has no name for.
     Other(u32),
 }
 
 /// The refusals with a name, from 1 on.
-const NAMED: [Refusal; 7] = [
+const NAMED: [Refusal; 10] = [
     Refusal::Bound,
     Refusal::Unsound,
     Refusal::Rights,
@@ -32,6 +38,9 @@ const NAMED: [Refusal; 7] = [
     Refusal::Edition,
     Refusal::Format,
     Refusal::Room,
+    Refusal::Mnemonic,
+    Refusal::Operand,
+    Refusal::Overflow,
 ];
 
 impl Refusal {
@@ -45,6 +54,9 @@ impl Refusal {
             Refusal::Edition => 5,
             Refusal::Format => 6,
             Refusal::Room => 7,
+            Refusal::Mnemonic => 8,
+            Refusal::Operand => 9,
+            Refusal::Overflow => 10,
             Refusal::Other(number) => number,
         }
     }
@@ -67,7 +79,10 @@ impl fmt::Display for Refusal {
             Refusal::TooMuch => "the run or the transfer is too long, or the register is not 1 to 31",
             Refusal::Edition => "no console image of edition 1",
             Refusal::Format => "a number, a rights byte or the label of the image breaks its rule",
-            Refusal::Room => "main memory or swap does not fit the image",
+            Refusal::Room => "main memory or swap does not fit the image, or the result the lent output",
+            Refusal::Mnemonic => "no mnemonic and no number begins the line",
+            Refusal::Operand => "what stands there cannot stand there, or a ninth parenthesis is opened",
+            Refusal::Overflow => "a value does not fit its field, or 32 bits signed",
             Refusal::Other(_) => "this wrapper has no name for it",
         };
         write!(f, "refused {}: {why}", self.number())

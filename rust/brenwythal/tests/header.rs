@@ -57,6 +57,12 @@ fn names_are_those_of_the_header() {
         ("IMAGE_PTL", IMAGE_PTL),
         ("IMAGE_START", IMAGE_START),
         ("IMAGE_FRAMES", IMAGE_FRAMES),
+        ("ASSEMBLE_ANSWER", ASSEMBLE_ANSWER),
+        ("ASSEMBLE_LENGTH", ASSEMBLE_LENGTH),
+        ("ASSEMBLE_LINE", ASSEMBLE_LINE),
+        ("ASSEMBLE_COLUMN", ASSEMBLE_COLUMN),
+        ("LIST_ANSWER", LIST_ANSWER),
+        ("LIST_LENGTH", LIST_LENGTH),
     ];
     let stops = [
         Stop::Limit,
@@ -73,6 +79,9 @@ fn names_are_those_of_the_header() {
         Refusal::Edition,
         Refusal::Format,
         Refusal::Room,
+        Refusal::Mnemonic,
+        Refusal::Operand,
+        Refusal::Overflow,
     ];
     let mut ours: Vec<_> = places.iter().map(|&(name, number)| (name.to_string(), number)).collect();
     ours.extend(stops.iter().map(|&stop| (format!("STOP_{}", shouted(stop)), stop.number() as usize)));

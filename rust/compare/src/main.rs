@@ -1,7 +1,7 @@
 //! Compares the proved library with the peer: `compare [seed] [calls]`, as the harness has it.
 #![forbid(unsafe_code)]
 use brenwythal::{calls, Machine, PAGE};
-use harness::{Engine, ImageAnswer, State};
+use harness::{Engine, ImageAnswer, Notation, State};
 
 /// What stands in an answer or a buffer before the call, to see what the library writes there.
 const BEFORE: u32 = 0xDEAD_BEEF;
@@ -68,6 +68,21 @@ impl Engine for Proved {
     }
 }
 
+impl Notation for Proved {
+    fn assemble(&mut self, text: &[u8], out: &mut [u8]) -> [usize; 4] {
+        let mut answer = [BEFORE as usize; 3];
+        let refusal = calls::assemble(text, out, &mut answer);
+        let [length, line, column] = answer;
+        [refusal as usize, length, line, column]
+    }
+
+    fn list(&mut self, words: &[u8], out: &mut [u8]) -> [usize; 2] {
+        let mut answer = [BEFORE as usize; 1];
+        let refusal = calls::list(words, out, &mut answer);
+        [refusal as usize, answer[0]]
+    }
+}
+
 /// The state as a machine of the wrapper, which owns its memories.
 fn with<T>(state: &mut State, act: impl FnOnce(&mut Machine) -> T) -> T {
     let (main, swap) = (std::mem::take(&mut state.main), std::mem::take(&mut state.swap));
@@ -84,7 +99,7 @@ fn main() -> std::io::Result<()> {
 #[cfg(test)]
 mod tests {
     use super::*;
-    use harness::{compare, Peer};
+    use harness::{compare, compare_texts, Peer};
 
     #[test]
     fn the_proved_library_agrees_with_the_peer() {
@@ -92,6 +107,61 @@ mod tests {
         assert!(stats.refusals.iter().all(|&count| count > 0), "{stats:?}");
         assert!(stats.stops.iter().all(|&count| count > 0), "{stats:?}");
         assert!(stats.spares.iter().all(|&count| count > 0), "{stats:?}");
+    }
+
+    #[test]
+    fn the_proved_assembler_and_lister_agree_with_the_peer() {
+        let stats = compare_texts(7, 20_000, &mut Peer, &mut Proved).map_err(|e| e.to_string()).unwrap();
+        assert!(stats.refused.iter().all(|&count| count > 100), "{stats:?}");
+        assert!(stats.unlisted.iter().all(|&count| count > 100), "{stats:?}");
+        assert!(stats.assembled > 2000 && stats.listed > 2000, "{stats:?}");
+    }
+
+    /// Lines of 290,000 bytes: none deepens the stack, and the answers are the peer's.
+    #[test]
+    fn long_lines() {
+        let long = |piece: &str| piece.repeat(290_000 / piece.len());
+        let lines = [
+            long("-"),
+            format!("trap {}", long("-")),
+            format!("trap 1{}", long("-")),
+            format!("trap 1{}", long("-1+1")),
+            format!("trap 1{}", long("+0")),
+            format!("trap -1{}", long("--0")),
+            format!("trap {}", long("(")),
+            format!("trap 0{}", long("+((((((((0))))))))")),
+            format!("trap 0{}", long("+(((((((((0)))))))))")),
+            format!("trap{}5", long(" ")),
+            format!("trap 5{}", long("\r\t ")),
+            format!("trap {}5", long("0")),
+            format!("trap {}", long("9")),
+            long("0"),
+            long("9"),
+            long("a"),
+            long(")"),
+        ];
+        for line in lines {
+            let (mut ours, mut theirs) = ([7; 4], [7; 4]);
+            let (one, other) =
+                (Proved.assemble(line.as_bytes(), &mut ours), Peer.assemble(line.as_bytes(), &mut theirs));
+            assert_eq!((one, ours), (other, theirs), "{}", &line[..20]);
+        }
+    }
+
+    /// An answer of the wrong length is refused 1, before a bad line, and nothing changes.
+    #[test]
+    fn wrong_lengths_of_texts() {
+        let mut out = [7; 64];
+        for len in [0, 1, 2, 4] {
+            let mut answer = vec![BEFORE as usize; len];
+            assert_eq!(calls::assemble(b"?", &mut out, &mut answer), 1);
+            assert!(answer.iter().all(|&size| size == BEFORE as usize));
+            if len != 1 {
+                assert_eq!(calls::list(&[0; 4], &mut out, &mut answer), 1);
+                assert!(answer.iter().all(|&size| size == BEFORE as usize));
+            }
+        }
+        assert_eq!(out, [7; 64]);
     }
 
     /// A record, an answer or a view's buffer of the wrong length is refused 1, and nothing changes.

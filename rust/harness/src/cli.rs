@@ -1,10 +1,10 @@
 //! The command line, for any second engine.
-use crate::{compare, generate::Generator, Engine, Peer};
+use crate::{compare, compare_texts, generate::Generator, Engine, Notation, Peer};
 use std::io::{self, Read, Write};
 
-/// `[seed] [calls]` compares the peer with `second`; `console` prints what the console program should print
+/// `[seed] [calls]` compares the peer with `second`; `texts [seed] [texts]` its assembler and lister; `console` prints what the console program should print
 /// for standard input; `image <seed>` writes a small image, good or damaged, to standard output.
-pub fn cli(second: &mut dyn Engine) -> io::Result<()> {
+pub fn cli<E: Engine + Notation>(second: &mut E) -> io::Result<()> {
     let args: Vec<String> = std::env::args().skip(1).collect();
     let number = |i: usize, default: u64| args.get(i).and_then(|arg| arg.parse().ok()).unwrap_or(default);
     match args.first().map(String::as_str) {
@@ -20,6 +20,13 @@ pub fn cli(second: &mut dyn Engine) -> io::Result<()> {
             let image = if seed % 2 == 0 { image } else { generator.damaged(image) };
             io::stdout().write_all(&image.bytes())?;
         }
+        Some("texts") => match compare_texts(number(1, 1), number(2, 100_000) as usize, &mut Peer, second) {
+            Ok(stats) => println!("{stats}"),
+            Err(failure) => {
+                println!("{failure}");
+                std::process::exit(1);
+            }
+        },
         _ => match compare(number(0, 1), number(1, 200_000), &mut Peer, second) {
             Ok(stats) => println!("{stats}"),
             Err(failure) => {

@@ -1,18 +1,20 @@
-//! The paged DLX console machine of document 01, in plain safe Rust.
+//! The paged DLX console machine of document 01, in plain safe Rust, and the makers' notation of document 02.
 //!
-//! It is written from the document alone and is the independent reading against which another
+//! It is written from the documents alone and is the independent reading against which another
 //! implementation is compared, and the baseline of its benchmarks. Quoted sentences are the document's.
 #![forbid(unsafe_code)]
 
 mod cpu;
 mod host;
 mod image;
+mod notation;
 mod paging;
 mod record;
 
 pub use cpu::{run, Ran};
 pub use host::{host_read, host_write, page_view, reply, set_spare, spare};
 pub use image::{console, load, read_image, ImageInfo};
+pub use notation::{assemble, list, Bad};
 pub use record::{Record, WORDS};
 
 /// K, the page size.
@@ -22,7 +24,7 @@ pub const MAX_RUN: u32 = 1_000_000;
 /// The most bytes that one host transfer may have.
 pub const MAX_TRANSFER: usize = 256;
 
-/// The refusals, numbered as in the document's table.
+/// The refusals, numbered as in the documents.
 pub mod refusal {
     pub const SHAPE: u32 = 1;
     pub const UNSOUND: u32 = 2;
@@ -31,6 +33,9 @@ pub mod refusal {
     pub const NO_IMAGE: u32 = 5;
     pub const TRAILER: u32 = 6;
     pub const ROOM: u32 = 7;
+    pub const MNEMONIC: u32 = 8;
+    pub const OPERAND: u32 = 9;
+    pub const VALUE: u32 = 10;
 }
 
 /// The stops of a run.

@@ -31,7 +31,7 @@ machine-first : (p : State) (v : Verdict) (own : List Row) → Whole p → First
 unfolding machineVerdict
 machine-first p v own len f =
     first-unless (fits (p .machine .shape) (p .memory)) Bound _ (1 unless Fits p) (2 unless Good p ∷ own) refl (fits-told p)
-    (λ q. first-unless (sound (p .machine) (p .memory .main)) Unsound v (2 unless Good p) own refl (sound-told p len q) (λ s. f))
+    (λ q. first-unless (sound (p .machine) (p .memory)) Unsound v (2 unless Good p) own refl (sound-told p len q) (λ s. f))
 
 transfer-first : (writing : Bool) (p : State) (va n : ℕ) → Whole p
     → First (verdictNumbers (hostVerdict writing p va n) .refused) (transferRows writing p va n)

@@ -15,7 +15,7 @@ use Rattle.laws.specs.Good.{Good}
 use Rattle.laws.specs.Named.{Off, runNames, namesGranted, alongCall}
 use Rattle.laws.proofs.Entries.{same-spare}
 use Rattle.laws.proofs.Frame.{run-off, in-main}
-use Rattle.laws.proofs.Calls.{reply-call, read-call, view-call, write-call, write-machine, write-off, call-good, call-size, call-kept}
+use Rattle.laws.proofs.Calls.{reply-call, read-call, view-call, write-call, write-marks, write-machine, write-off, call-good, call-size, call-kept}
 use Rattle.demands.specs.Demand2.{Outside, Demand2}
 use Rattle.demands.proofs.FlatRun.{runs-flat, few-loads, halts}
 
@@ -41,6 +41,7 @@ demand-2 p g = record {
   viewed = view-call p g;
   written = write-call p g;
   recorded = write-machine p g;
+  marks = write-marks p g;
   replied = reply-call (p .machine);
   sound = call-good p g;
   size = call-size p g;

@@ -22,12 +22,13 @@ use Rattle.laws.specs.Good.{Good}
 use Rattle.laws.specs.Mapped.{mapStep}
 use Rattle.laws.specs.Entries.{Place, SamePlace}
 use Rattle.laws.specs.Demand2.{flatOf}
-use Rattle.laws.specs.Named.{loadVictims, runVictims}
+use Rattle.laws.specs.Named.{loadVictims, runCopies}
 use Rattle.laws.proofs.Sound.{resident-valid}
 use Rattle.laws.proofs.Seats.{Seats, seats}
-use Rattle.laws.proofs.Load.{load-good, load-flat, load-kept, load-came, load-left, load-remains}
+use Rattle.laws.proofs.Load.{load-good, load-flat, load-kept, load-came, load-left, load-cleared, load-others, load-remains}
 use Rattle.laws.proofs.Instruction.{instruction-right}
 use Rattle.laws.proofs.Loads.{instruction-loads}
+use Rattle.laws.proofs.Copies.{run-copied}
 use Rattle.laws.proofs.Frame.{load-swap-stays, instruction-swap-off, run-swap-off}
 use Rattle.laws.proofs.Granted.{run-reported}
 use Rattle.laws.proofs.Spare.{spared-machine, spared-swap, spared-here, spared-place, spared-rights, spared-off, spared-good, spared-flat}
@@ -72,6 +73,8 @@ each-load p g y h = record {
       subst⁻¹ (λ z. Place 0 false (entryOf (load p y) z)) (v .1) (load-left p g y (h .inside) (invalid p g y h) (v .0));
   kept = load-kept p g y (h .inside) (invalid p g y h);
   swap = λ j o. load-swap-stays (uncounted p) g y (h .inside) j (record { unframed = tt; clear = o });
+  cleared = load-cleared p g y (h .inside) (invalid p g y h);
+  others = load-others p g y (h .inside) (invalid p g y h);
   remains = λ z. no-victim (p .machine .shape .frames) (load p y .machine .book) y (load-remains p g y (h .inside) (invalid p g y h));
 }
 
@@ -106,7 +109,8 @@ each-instruction c g = record {
 pub each-run : EachRun
 each-run p g n few = record {
   served = run-demand p g n few;
-  swap = subst⁻¹ (λ r. SwapStays p (runVictims n (uncounted p)) (r .state)) (run-reported p g n few)
+  copied = ap (λ r. r .numbers .copied) (run-reported p g n few) ∙ omega (arith, run-copied n (uncounted p));
+  swap = subst⁻¹ (λ r. SwapStays p (runCopies n (uncounted p)) (r .state)) (run-reported p g n few)
       (λ j o. run-swap-off n (uncounted p) g j (record { unframed = tt; clear = o }));
 }
 

@@ -18,6 +18,7 @@ use Rattle.laws.specs.Mapped.{mapCourse}
 use Rattle.laws.specs.Demand2.{flatOf}
 use Rattle.laws.proofs.Run.{run-right}
 use Rattle.laws.proofs.Loads.{run-loads}
+use Rattle.laws.proofs.Copies.{run-copied-few}
 use Rattle.laws.proofs.Again.{Halted, run-halts, run-again}
 use Rattle.laws.proofs.Granted.{run-limit, run-reported}
 use Rattle.laws.proofs.Calls.{call-good}
@@ -51,8 +52,9 @@ module _ (p : State) (g : Good p) (n : ℕ) where
       by Granted = record {
         most = omega (arith, run-loads n (uncounted p) g .most);
         limit = λ e. omega (arith, run-loads n (uncounted p) g .limit (stop-zero _ e));
+        copied = omega (arith, run-copied-few n (uncounted p));
       }
-      by (Refused r) = record { most = omega arith; limit = λ e. omega arith }
+      by (Refused r) = record { most = omega arith; limit = λ e. omega arith; copied = omega arith }
 
   -- a run that such a stop ended was granted
   within : Halting (runCall p n) → n ≤ 1000000

@@ -6,6 +6,7 @@ pub mod FlatRun
 pub mod Demand2
 pub mod Loaded
 pub mod Wants
+pub mod Bare
 pub mod Turns
 pub mod OrderLength
 pub mod Stories

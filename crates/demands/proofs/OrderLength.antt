@@ -23,13 +23,14 @@ use Rattle.model.specs.declared.Plan.{Plan}
 use Rattle.model.specs.declared.Plan.the-variants.{Unknown, Set, LoadByte, LoadHalf, LoadWord, StoreByte, StoreHalf, StoreWord, Trapping}
 use Rattle.model.specs.declared.Stop.the-variants.{IllegalMemory, Misaligned}
 use Rattle.model.specs.declared.Outcome.{Outcome}
-use Rattle.model.specs.declared.Outcome.the-variants.{Done, Trapped, Missing, Stopped}
+use Rattle.model.specs.declared.Outcome.the-variants.{Done, Wrote, Trapped, Missing, Stopped}
 use Rattle.laws.proofs.Simulate.{run-all}
 use Rattle.demands.specs.Demand3.{fetches, stoppedFetch}
 
 -- ---- an attempt stops by 2, 3 or 4 alone
 abbrev Ends : Outcome → Type 0
 Ends (Done pcs) = Unit {0}
+Ends (Wrote pcs i) = Unit {0}
 Ends (Trapped pcs n) = Unit {0}
 Ends (Missing va) = Unit {0}
 Ends (Stopped s) = leb 2 (stopNumber s) ≡ true
@@ -74,11 +75,12 @@ module _ (f : Flat) where
   fetched-stop : (n : ℕ) → leb 2 n ≡ true → fetches f ≡ true → 1 ≡ 0 + stoppedFetch n f
   fetched-stop n h e = simp (h, e) refl
 
-  fetched-asked : (d : Demand) (t : Tried) → Ends (t .outcome) → fetches f ≡ true → Asked (d ∷ []) (answered f (flatPut f) again t)
+  fetched-asked : (d : Demand) (t : Tried) → Ends (t .outcome) → fetches f ≡ true → Asked (d ∷ []) (answered f (flatPut f) (λ i g. g) again t)
   fetched-asked d t h e = by (t .outcome) h
     where
-      by : (o : Outcome) → Ends o → Asked (d ∷ []) (answered f (flatPut f) again (record { outcome = o; gpr = t .gpr; bytes = t .bytes }))
+      by : (o : Outcome) → Ends o → Asked (d ∷ []) (answered f (flatPut f) (λ i g. g) again (record { outcome = o; gpr = t .gpr; bytes = t .bytes }))
       by (Done pcs) u = refl
+      by (Wrote pcs i) u = refl
       by (Trapped pcs n) u = refl
       by (Missing va) u = fetched-stop 2 refl e
       by (Stopped s) u = fetched-stop (stopNumber s) u e

@@ -29,7 +29,7 @@ use Rattle.bound.specs.Orders.{Order}
 use Rattle.bound.specs.Frames.{pages, Keeps}
 use Rattle.bound.specs.Handler as large
 use Rattle.bound.proofs.Handler.{handle-append}
-use Rattle.demands.specs.Brought.{instructionBrings, runBrings, callBrings, stepBrings, seriesBrings, Steps, no-step, one-step}
+use Rattle.demands.specs.Brought.{instructionBrings, runBrings, callBrings, stepBrings, seriesBrings, bare, Steps, no-step, one-step}
 use Rattle.demands.specs.Demand3.{frames, residents}
 use Rattle.demands.proofs.Turns.{atLarge, Handled, instruction-handled}
 
@@ -53,9 +53,9 @@ first-brings : (n : ℕ) (c : Counted) (r : Step Counted) → instruction c ≡ 
 unfolding alongRun
 first-brings n c r e = ap (λ z. instructionBrings (c .state) ++ namesOnward z (λ next. runBrings n next)) e
 
--- a state with the pages loaded so far
+-- a state with the pages loaded so far; those copied back are not counted here
 abbrev pub having : State → ℕ → Counted
-having p n = record { state = p; loads = n }
+having p n = record { state = p; loads = n; copied = 0 }
 
 -- the loads of a series, after n before it
 after-loads : (n : ℕ) (p r : State) (k : ℕ) (ys : List VirtualPage) (t : large.Handling)
@@ -99,14 +99,14 @@ module _ (o : Order) (kept : Keeps o) where
       (ap (λ (x : Shape). x .frames) (first-shape c g next (ap leaves e))) (first-handled c g (goes next) e) t))
 
   -- ---- a call, a step, and a series of steps
-  -- one that leaves the book as it is
-  still : (p r : State) → r .machine .book ≡ p .machine .book → Handled (uncounted p) (having r 0) [] (atLarge o p [])
+  -- one that leaves the book as it is but for the marks
+  still : (p r : State) → bare (r .machine .book) ≡ bare (p .machine .book) → Handled (uncounted p) (having r 0) [] (atLarge o p [])
   unfolding large.handle
   still p r e = record {
     counted = omega arith;
     many = refl;
     left = ap pages e;
-    steps = subst (λ x. Steps (frames p) (p .machine .book) [] x) (sym e) no-step;
+    steps = subst (λ x. Steps (frames p) (bare (p .machine .book)) [] x) (sym e) no-step;
   }
 
   call-handled : (p : State) (c : Call) → Good p
@@ -117,7 +117,9 @@ module _ (o : Order) (kept : Keeps o) where
       by : (v : Verdict)
           → Handled (uncounted p) (having (runBy v p n .state) (runBy v p n .numbers .loads)) (namesGranted v (runBrings n (uncounted p)))
           (atLarge o p (orderBy v p n))
-      by Granted = run-handled n (uncounted p) g
+      by Granted =
+          let t = run-handled n (uncounted p) g in
+          record { counted = t .counted; many = t .many; left = t .left; steps = t .steps }
       by (Refused r) = still p p refl
   call-handled p (reads va n) g = still p p refl
   call-handled p (writes va bytes) g = by (hostVerdict true p va (length bytes))
@@ -136,7 +138,7 @@ module _ (o : Order) (kept : Keeps o) where
       → Handled (uncounted p) (having (afterStep p s) (stepLoads p s)) (stepBrings p s) (atLarge o p (stepOrder p s))
   unfolding afterStep stepLoads stepOrder stepBrings
   step-handled p (calls c) g = call-handled p c g
-  step-handled p (spares x v) g = still p _ (ap (λ m. m .book) (spared-machine p g x v))
+  step-handled p (spares x v) g = still p _ (ap (λ m. bare (m .book)) (spared-machine p g x v))
 
   pub series-handled : (p : State) (ss : List SeriesStep) → Good p
       → Handled (uncounted p) (having (afterAll p ss) (loadsOfAll p ss)) (seriesBrings p ss) (atLarge o p (orderOfAll p ss))

@@ -32,7 +32,7 @@ pub fits-told : (p : State) → Tells (fits (p .machine .shape) (p .memory)) (1 
 fits-told p = tells-unless (fit-of (p .machine .shape) (p .memory)) (λ f. fits-of (p .machine .shape) (p .memory) (f .0) (f .1))
 
 pub sound-told : (p : State) → length (p .machine .book .held) ≡ 32 → fits (p .machine .shape) (p .memory) ≡ true
-    → Tells (sound (p .machine) (p .memory .main)) (2 unless Good p)
+    → Tells (sound (p .machine) (p .memory)) (2 unless Good p)
 sound-told p len f = tells-unless (good-of p len f) (λ g. sound-of p g .1)
 
 -- ---- 3

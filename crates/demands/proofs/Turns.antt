@@ -12,15 +12,14 @@ use Rattle.model.specs.Pages.{pageOf}
 use Rattle.model.specs.Frames.{resident}
 use Rattle.model.specs.Handler.{load}
 use Rattle.model.specs.State.{State}
-use Rattle.model.specs.Run.{Step, stops, answered, Counted, try, put, served, attempts, instruction}
+use Rattle.model.specs.Run.{Step, stops, answered, Counted, try, put, note, served, attempts, instruction}
 use Rattle.model.specs.Translate.{legal}
 use Rattle.model.specs.Flat.{Flat, allow, flat}
 use Rattle.model.specs.Order.{Demand, demandOf}
-use Rattle.model.specs.declared.FrameBook.{FrameBook}
 use Rattle.model.specs.declared.VirtualPage.{VirtualPage}
 use Rattle.model.specs.declared.Stop.the-variants.{IllegalMemory}
 use Rattle.model.specs.declared.Outcome.{Outcome}
-use Rattle.model.specs.declared.Outcome.the-variants.{Done, Trapped, Missing, Stopped}
+use Rattle.model.specs.declared.Outcome.the-variants.{Done, Wrote, Trapped, Missing, Stopped}
 use Rattle.laws.specs.Good.{Good}
 use Rattle.laws.specs.Mapped.{leaves}
 use Rattle.laws.proofs.Sound.{resident-valid}
@@ -34,9 +33,10 @@ use Rattle.bound.specs.Frames.{pages, Keeps}
 use Rattle.bound.specs.Handler as large
 use Rattle.bound.proofs.Schedule.{holds-iff}
 use Rattle.bound.proofs.Handler.{look-absent, carry-turn, carried}
-use Rattle.demands.specs.Brought.{comes, instructionBrings, Steps, no-step, one-step}
+use Rattle.demands.specs.Brought.{comes, instructionBrings, bare, Steps, no-step, one-step}
 use Rattle.demands.specs.Demand3.{frames, residents, Serves}
-use Rattle.demands.proofs.Wants.{seen, lookFor, try-wants}
+use Rattle.demands.proofs.Bare.{bare-resident, bare-advanced}
+use Rattle.demands.proofs.Wants.{seen, lookFor, try-wants, try-stops}
 
 -- what the handler in the large does from p on with the demands ds, in the order o
 abbrev pub atLarge : Order → State → List Demand → large.Handling
@@ -58,10 +58,11 @@ pub record Handled (c e : Counted) (ys : List VirtualPage) (t : large.Handling) 
   pub counted : e .loads ≡ c .loads + length ys
   pub many : length ys ≡ t .loads
   pub left : residents (e .state) ≡ t .left
-  pub steps : Steps (frames (c .state)) (c .state .machine .book) ys (e .state .machine .book)
+  pub steps : Steps (frames (c .state)) (bare (c .state .machine .book)) ys (bare (e .state .machine .book))
 
 names-none : (o : Outcome) → namesAfter o (λ va. []) ≡ []
 names-none (Done pcs) = refl
+names-none (Wrote pcs i) = refl
 names-none (Trapped pcs n) = refl
 names-none (Missing va) = refl
 names-none (Stopped s) = refl
@@ -79,10 +80,6 @@ demand-single f = pick (aligned 4 (f .pcs .dpc)) (legal (allow (f .rights) false
     pick true true d = single d
     pick true false d = none
     pick false y d = none
-
-none-left : {a : ℕ} {ys : List VirtualPage} {b b′ : FrameBook} → Steps a b ys b′ → length ys ≡ 0 → b′ ≡ b
-none-left no-step e = refl
-none-left (one-step y r t) e = absurd (omega arith)
 
 -- ---- a machine whose book keeps the order o
 module _ (o : Order) (kept : Keeps o) where
@@ -102,23 +99,24 @@ module _ (o : Order) (kept : Keeps o) where
     found k z e =
         carry-next o a k ds q ∙ ap (λ z. large.resume z (λ y r. carryFor o a k ds (fetch a y r))) (try-wants o kept (c .state) g ∙ ap (λ z. seen z q) e)
 
-    still : (k : ℕ) (e : Counted) → e .loads ≡ c .loads → e .state .machine .book ≡ c .state .machine .book
+    still : (k : ℕ) (e : Counted) → e .loads ≡ c .loads → bare (e .state .machine .book) ≡ bare (c .state .machine .book)
         → carryFor o a (suc k) ds q ≡ record { loads = 0; left = q } → Handled c e [] (carryFor o a (suc k) ds q)
     still k e l b h = rw h (record {
       counted = omega (arith, l);
       many = refl;
       left = ap pages b;
-      steps = subst (λ x. Steps a (c .state .machine .book) [] x) (sym b) no-step;
+      steps = subst (λ x. Steps a (bare (c .state .machine .book)) [] x) (sym b) no-step;
     })
 
     split : (k : ℕ) (next : ℕ → Step Counted) (rest : ℕ → List VirtualPage)
         → ((va : ℕ) → try (c .state) .outcome ≡ Missing va → Handled c (leaves (next va)) (rest va) (carryFor o a (suc k) ds q))
-        → Handled c (leaves (answered c (put c) next (try (c .state)))) (namesAfter (try (c .state) .outcome) rest) (carryFor o a (suc k) ds q)
+        → Handled c (leaves (answered c (put c) note next (try (c .state)))) (namesAfter (try (c .state) .outcome) rest) (carryFor o a (suc k) ds q)
     split k next rest f = by (try (c .state) .outcome) refl
       where
         by : (z : Outcome) → try (c .state) .outcome ≡ z
-            → Handled c (leaves (answered c (put c) next (try (c .state)))) (namesAfter (try (c .state) .outcome) rest) (carryFor o a (suc k) ds q)
+            → Handled c (leaves (answered c (put c) note next (try (c .state)))) (namesAfter (try (c .state) .outcome) rest) (carryFor o a (suc k) ds q)
         by (Done pcs) e = rw e (still k _ refl refl (found k (Done pcs) e))
+        by (Wrote pcs i) e = rw e (still k _ refl refl (found k (Wrote pcs i) e))
         by (Trapped pcs n) e = rw e (still k _ refl refl (found k (Trapped pcs n) e))
         by (Missing va) e = rw e (f va e)
         by (Stopped s) e = rw e (still k _ refl refl (found k (Stopped s) e))
@@ -133,14 +131,16 @@ module _ (o : Order) (kept : Keeps o) where
         = kept .loaded a (g .fit .frames-most) (c .state .machine .book) (g .seated .booked) (g .hand) (pageOf va) in
         let same : flat (load (c .state) (pageOf va)) ≡ flat (c .state) = miss-flat (c .state) g va m in
         let u : Handled (served c (pageOf va)) e ys (carryFor o a (suc k) ds (fetch a (pageOf va) q)) = rw (same, pulled) at t in
-        let away : resident (c .state .machine .book) (pageOf va) ≡ false
-        = resident-valid (c .state .machine .shape) (c .state .machine .book) (c .state .memory .main) (g .seated) (pageOf va) (missing (c .state) va m .0)
+        let away : resident (bare (c .state .machine .book)) (pageOf va) ≡ false
+        = bare-resident (c .state .machine .book) (pageOf va)
+        ∙ resident-valid (c .state .machine .shape) (c .state .machine .book) (c .state .memory .main) (g .seated) (pageOf va) (missing (c .state) va m .0)
         ∙ missing (c .state) va m .1 in
         rw (found (suc k) (Missing va) m) (record {
           counted = omega (arith, u .counted);
           many = ap suc (u .many);
           left = u .left;
-          steps = one-step (pageOf va) away (u .steps);
+          steps = one-step (pageOf va) away
+              (subst (λ b. Steps a b ys (bare (e .state .machine .book))) (bare-advanced a (c .state .machine .book) (pageOf va)) (u .steps));
         })
 
   attempts-handled : (k : ℕ) (c : Counted) → Good (c .state) → Enough k (c .state)
@@ -173,6 +173,7 @@ module _ (o : Order) (kept : Keeps o) where
       by : (z : Outcome) → try p .outcome ≡ z → ((va : ℕ) → try p .outcome ≡ Missing va → alongAttempts comes k (load p (pageOf va)) ⊆ pagesOf d)
           → namesAfter z (λ va. pageOf va ∷ alongAttempts comes k (load p (pageOf va))) ⊆ pagesOf d
       by (Done pcs) e on = nil-subset _
+      by (Wrote pcs i) e on = nil-subset _
       by (Trapped pcs n) e on = nil-subset _
       by (Missing va) e on =
           let w : large.look o (pagesOf d) (residents p) ≡ large.absent (pageOf va) (residents p)
@@ -181,6 +182,11 @@ module _ (o : Order) (kept : Keeps o) where
       by (Stopped s) e on = nil-subset _
 
   -- ---- what an instruction with its demands does
+  -- with none it stops at once
+  stays : (c : Counted) → Good (c .state) → demandOf (flat (c .state)) ≡ [] → leaves (attempts 2 c) ≡ c
+  unfolding attempts
+  stays c g h = rw (try-stops o kept (c .state) g h .1) refl
+
   pub instruction-served : (c : Counted) → Good (c .state) → Serves o (demandOf (flat (c .state))) c (leaves (instruction c)) (instructionBrings (c .state))
   unfolding instruction alongInstruction
   instruction-served c g =
@@ -194,7 +200,7 @@ module _ (o : Order) (kept : Keeps o) where
 
       by : (ds : List Demand) → demandOf (flat (c .state)) ≡ ds → Single ds
           → Handled c e ys (carryFor o (frames (c .state)) 3 ds (residents (c .state))) → Serves o ds c e ys
-      by ds h none t = (omega (arith, t .counted, t .many), none-left (t .steps) (t .many))
+      by ds h none t = (ap (λ z. z .loads) (stays c g h), ap (λ z. z .state .machine .book) (stays c g h))
       by ds h (single d) t = record {
         counted = t .counted;
         steps = t .steps;

@@ -1,8 +1,11 @@
--- One attempt beside the demand of its flat machine: it misses the first page of the demand that is not resident (`try-wants`).
+-- One attempt beside the demand of its flat machine: it misses the first page of the demand that is not resident (`try-wants`), and
+-- with no demand it stops (`try-stops`).
 use mathlib.Core.Path.{_≡_, refl, sym, ap, _∙_}
 use mathlib.Core.Bool.{Bool, true, false, true≢false}
 use mathlib.Core.List.{List, [], _∷_}
 use Prim.Native.Nat.{ℕ, _≤_}
+use native.Mathlib.Omega.{arith}
+use lib.ListN.{length}
 use Rattle.model.specs.Choice.{if_then_else_}
 use Rattle.model.specs.Words.{aligned}
 use Rattle.model.specs.Bytes.{number}
@@ -22,9 +25,10 @@ use Rattle.model.specs.declared.Access.{Access}
 use Rattle.model.specs.declared.Access.the-variants.{Illegal, Fault, At}
 use Rattle.model.specs.declared.Plan.{Plan}
 use Rattle.model.specs.declared.Plan.the-variants.{Unknown, Set, LoadByte, LoadHalf, LoadWord, StoreByte, StoreHalf, StoreWord, Trapping}
-use Rattle.model.specs.declared.Stop.the-variants.{Misaligned}
+use Rattle.model.specs.declared.Stop.{Stop}
+use Rattle.model.specs.declared.Stop.the-variants.{IllegalMemory, Misaligned}
 use Rattle.model.specs.declared.Outcome.{Outcome}
-use Rattle.model.specs.declared.Outcome.the-variants.{Done, Trapped, Missing, Stopped}
+use Rattle.model.specs.declared.Outcome.the-variants.{Done, Wrote, Trapped, Missing, Stopped}
 use Rattle.laws.specs.Good.{Seated, Good}
 use Rattle.laws.proofs.Sound.{resident-valid}
 use Rattle.laws.proofs.Access as access
@@ -39,6 +43,7 @@ use Rattle.bound.proofs.Handler.{look-here, look-away}
 -- what an attempt finds in the list q of resident pages
 abbrev pub seen : Outcome → List VirtualPage → Looked
 seen (Done pcs) q = present q
+seen (Wrote pcs i) q = present q
 seen (Trapped pcs n) q = present q
 seen (Missing va) q = absent (pageOf va) q
 seen (Stopped s) q = present q
@@ -172,8 +177,27 @@ module _ (o : Order) (kept : Keeps o) (s : Shape) (few : s .frames ≤ 32) (b : 
       pick true h = fetch-wants (translate s (m .main) false (pcs .dpc)) refl h
       pick false h = refl
 
+  -- with no demand the fetch is misaligned or illegal
+  attempt-stops : demandOf f ≡ [] → (x : Stop) × (attempt (translate s (m .main)) gpr (m .main) pcs .outcome ≡ Stopped x)
+  unfolding demandOf attempt transfer
+  attempt-stops = pick (aligned 4 (pcs .dpc)) (translate s (m .main) false (pcs .dpc)) refl
+    where
+      pick : (x : Bool) (a : Access) → translate s (m .main) false (pcs .dpc) ≡ a
+          → (if x then (if legal (allow (flatRights s (m .main)) false (pcs .dpc)) then demand ∷ [] else []) else []) ≡ []
+          → (y : Stop) × ((if x then accessed (translate s (m .main)) gpr (m .main) pcs a (pcs .dpc) obeyed
+          else stopped (translate s (m .main)) gpr (m .main) pcs (Misaligned (pcs .dpc))) .outcome ≡ Stopped y)
+      pick false a e h = (Misaligned (pcs .dpc), refl)
+      pick true Illegal e h = (IllegalMemory (pcs .dpc), refl)
+      pick true Fault e h = absurd (omega (arith, ap length (rw (access.permits s m false (pcs .dpc) e) at h)))
+      pick true (At i) e h = absurd (omega (arith, ap length (rw (access.legal s m false (pcs .dpc) i e) at h)))
+
 pub try-wants : (o : Order) → Keeps o → (p : State) → Good p
     → lookFor o (demandOf (flat p)) (pages (p .machine .book)) ≡ seen (try p .outcome) (pages (p .machine .book))
 unfolding flat
 try-wants o kept p g =
     attempt-wants o kept (p .machine .shape) (g .fit .frames-most) (p .machine .book) (p .memory) (g .seated) (p .machine .gpr) (p .machine .pcs)
+
+pub try-stops : (o : Order) → Keeps o → (p : State) → Good p → demandOf (flat p) ≡ [] → (x : Stop) × (try p .outcome ≡ Stopped x)
+unfolding flat
+try-stops o kept p g =
+    attempt-stops o kept (p .machine .shape) (g .fit .frames-most) (p .machine .book) (p .memory) (g .seated) (p .machine .gpr) (p .machine .pcs)

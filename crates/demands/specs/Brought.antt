@@ -4,7 +4,7 @@ use mathlib.Core.Path.{_≡_}
 use mathlib.Core.Bool.{false}
 use mathlib.Core.List.{List, [], _∷_, _++_}
 use Prim.Native.Nat.{ℕ}
-use Rattle.model.specs.Frames.{advanced, resident}
+use Rattle.model.specs.Frames.{remarked, advanced, resident}
 use Rattle.model.specs.State.{State}
 use Rattle.model.specs.Run.{Counted}
 use Rattle.model.specs.Series.{Call, SeriesStep, calls, spares, afterStep}
@@ -32,6 +32,10 @@ stepBrings p (spares x v) = []
 unfoldable pub seriesBrings : State → List SeriesStep → List VirtualPage
 seriesBrings p [] = []
 seriesBrings p (s ∷ ss) = stepBrings p s ++ seriesBrings (afterStep p s) ss
+
+-- the book but for its marks: b, hand and B
+abbrev pub bare : FrameBook → FrameBook
+bare b = remarked b 0
 
 -- With a frames the book b becomes b′ when the pages are brought in one after another, each of them not resident then.
 pub data Steps (a : ℕ) : FrameBook → List VirtualPage → FrameBook → Type 0 where

@@ -49,7 +49,7 @@ pub record ExactlyWhen : Type 0 where
 -- "A refusal returns its number, zero for every other number, an empty part for each part, the record as handed in (from loading, a
 -- record of zeros), and no lent byte differs."
 abbrev pub refusedRun : State → VerdictNumbers → RunOutcome
-refusedRun p v = record { numbers = record { verdict = v; stop = 0; detail = 0; finished = 0; loads = 0 }; state = p }
+refusedRun p v = record { numbers = record { verdict = v; stop = 0; detail = 0; finished = 0; loads = 0; copied = 0 }; state = p }
 
 abbrev pub refusedRead : List ℕ → VerdictNumbers → ReadOutcome
 refusedRead buffer v = record { verdict = v; buffer = buffer }

@@ -3,12 +3,15 @@
 -- that a page load names", and there "only ppx and v": "bits 11–3 stay as the host put them". `Demand2 p` says it of every call on a
 -- machine p; `demand-2` of proofs/Demand2, of each that is sound.
 use mathlib.Core.Path.{_≡_}
+use mathlib.Core.Logic.{_↔_, _⊎_}
+use mathlib.Core.Bool.{true}
 use mathlib.Core.List.{List, List·Memᴰ}
 use Prim.Native.Nat.{ℕ, _*_, _<_, _≤_}
 use lib.ListN.{length, getD, take, drop}
 use Rattle.model.specs.Bytes.{page}
 use Rattle.model.specs.Pages.{entryAt}
 use Rattle.model.specs.Table.{spare, entry}
+use Rattle.model.specs.Frames.{pageIn, marked}
 use Rattle.model.specs.State.{State}
 use Rattle.model.specs.Run.{run}
 use Rattle.model.specs.Flat.{flat, flatInstruction}
@@ -17,7 +20,7 @@ use Rattle.model.specs.Series.{Call, after}
 use Rattle.model.specs.declared.VirtualPage.{VirtualPage}
 use Rattle.laws.specs.Good.{Good}
 use Rattle.laws.specs.Mapped.{SameSize}
-use Rattle.laws.specs.Demand2.{flatWrite, withRegister}
+use Rattle.laws.specs.Demand2.{flatWrite, withMarks, Gets, withRegister}
 use Rattle.laws.specs.Named.{Off, callNames}
 use Rattle.demands.specs.FlatRun.{RunsFlat, FewLoads, Halting, Halts}
 
@@ -38,8 +41,13 @@ pub record Demand2 (p : State) : Type 0 where
   pub viewed : (x : VirtualPage) → viewCall p x .verdict .refused ≡ 0 → viewCall p x .part ≡ page (flat p .bytes) (x .0)
   pub written : (va : ℕ) (bytes : List ℕ) → writeCall p va bytes .verdict .refused ≡ 0
       → flat (writeCall p va bytes .state) ≡ flatWrite (flat p) va bytes
-  -- a write leaves the record as it is, so that no page is loaded; a reply changes the one register
-  pub recorded : (va : ℕ) (bytes : List ℕ) → writeCall p va bytes .state .machine ≡ p .machine
+  -- a write leaves the record as it is but for the marks, so that no page is loaded: each frame whose page gets a byte has its mark
+  -- then, and each that had it; a reply changes the one register
+  pub recorded : (va : ℕ) (bytes : List ℕ)
+      → writeCall p va bytes .state .machine ≡ withMarks (p .machine) (writeCall p va bytes .state .machine .book .marks)
+  pub marks : (va : ℕ) (bytes : List ℕ) → writeCall p va bytes .verdict .refused ≡ 0 → (f : ℕ) → f < p .machine .book .used
+      → (marked (writeCall p va bytes .state .machine .book .marks) f ≡ true)
+      ↔ ((marked (p .machine .book .marks) f ≡ true) ⊎ Gets va (length bytes) (pageIn (p .machine .book) f))
   pub replied : (i v : ℕ) → replyCall (p .machine) i v .verdict .refused ≡ 0 → replyCall (p .machine) i v .machine ≡ withRegister (p .machine) i v
   -- a sound machine stays sound, refused or not; its shape stays, and the lengths of both memories
   pub sound : (c : Call) → Good (after p c)

@@ -26,7 +26,7 @@ use Rattle.bound.specs.Rule.{pagesOf}
 use Rattle.bound.specs.Orders.{Order, firstCome}
 use Rattle.bound.specs.Story.{Turn, Story}
 use Rattle.bound.specs.Frames.{pages}
-use Rattle.demands.specs.Brought.{instructionBrings, runBrings, seriesBrings, Steps}
+use Rattle.demands.specs.Brought.{instructionBrings, runBrings, seriesBrings, bare, Steps}
 
 abbrev pub frames : State → ℕ
 frames p = p .machine .shape .frames
@@ -43,7 +43,7 @@ leaving = firstCome
 -- With the demand d it brings in pages of d alone, each of them missing then; at its end all pages of d are resident together.
 pub record DemandServed (o : Order) (d : Demand) (c e : Counted) (ys : List VirtualPage) : Type 0 where
   pub counted : e .loads ≡ c .loads + length ys
-  pub steps : Steps (frames (c .state)) (c .state .machine .book) ys (e .state .machine .book)
+  pub steps : Steps (frames (c .state)) (bare (c .state .machine .book)) ys (bare (e .state .machine .book))
   pub own : ys ⊆ pagesOf d
   pub turn : Turn o (frames (c .state)) d (residents (c .state)) (length ys) (residents (e .state))
   pub together : Holds (residents (e .state)) d
@@ -71,7 +71,7 @@ stoppedFetch stop f = if leb 2 stop && fetches f then 1 else 0
 -- finished and the one that stopped after a legal fetch.
 pub record RunServed (o : Order) (p : State) (n : ℕ) (r : RunOutcome) : Type 0 where
   pub counted : r .numbers .loads ≡ length (runBrings n (uncounted p))
-  pub steps : Steps (frames p) (p .machine .book) (runBrings n (uncounted p)) (r .state .machine .book)
+  pub steps : Steps (frames p) (bare (p .machine .book)) (runBrings n (uncounted p)) (bare (r .state .machine .book))
   pub story : Story o (frames p) (residents p) (orderOf n (flat p)) (r .numbers .loads) (residents (r .state))
   pub order : length (orderOf n (flat p)) ≡ r .numbers .finished + stoppedFetch (r .numbers .stop) (flat (r .state))
 
@@ -89,7 +89,7 @@ pub record Fresh (a : ℕ) (p : State) : Type 0 where
 -- schedules, since the machine's own loads are those of one (`own`); and `fewer` is the bound against one on h ≤ a frames.
 pub record SeriesServed (a : ℕ) (p : State) (ss : List SeriesStep) : Type 0 where
   pub counted : loadsOfAll p ss ≡ length (seriesBrings p ss)
-  pub steps : Steps a emptyBook (seriesBrings p ss) (afterAll p ss .machine .book)
+  pub steps : Steps a emptyBook (seriesBrings p ss) (bare (afterAll p ss .machine .book))
   pub bound : (rival : Schedule a [] (orderOfAll p ss)) → loadsOfAll p ss ≤ a * brings rival
   pub own : (rival : Schedule a [] (orderOfAll p ss)) × (brings rival ≡ loadsOfAll p ss)
   pub fewer : (h : ℕ) → h ≤ a → (rival : Schedule h [] (orderOfAll p ss))

@@ -4,10 +4,10 @@ use mathlib.Core.Path.{_≡_}
 use mathlib.Core.Bool.{true, false}
 use mathlib.Core.List.{List, [], _∷_, List·Memᴰ}
 use Prim.Native.Nat.{ℕ, _+_, _*_, _<_, _≤_}
-use lib.ListN.{getD}
+use lib.ListN.{length, getD}
 use Rattle.model.specs.Pages.{entryAt, swapOf}
 use Rattle.model.specs.Table.{spare, entry}
-use Rattle.model.specs.Frames.{pageIn, frame, advanced, resident}
+use Rattle.model.specs.Frames.{pageIn, marked, frame, advanced, resident}
 use Rattle.model.specs.State.{State}
 use Rattle.model.specs.Handler.{load}
 use Rattle.model.specs.Run.{Step, goes, stops, Counted, uncounted, instruction}
@@ -21,7 +21,7 @@ use Rattle.laws.specs.Good.{Booked, Hand, Good}
 use Rattle.laws.specs.Mapped.{leaves}
 use Rattle.laws.specs.Entries.{Place, SamePlace, SameKept}
 use Rattle.laws.specs.Demand2.{Right, Few}
-use Rattle.laws.specs.Named.{Off, victims, instructionVictims, runVictims}
+use Rattle.laws.specs.Named.{Off, victims, copied, instructionCopies, runCopies}
 use Rattle.bound.specs.Schedule.{Holds}
 use Rattle.demands.specs.Brought.{instructionBrings}
 use Rattle.demands.specs.Demand3.{residents, leaving, Serves, RunServed}
@@ -49,8 +49,12 @@ pub record OneLoad (p : State) (y : VirtualPage) : Type 0 where
   pub came : Place (p .machine .shape .abase + frame (p .machine .shape .frames) (p .machine .book)) true (entryOf (load p y) y)
   pub left : (x : VirtualPage) → List·Memᴰ x (victims p y) → Place 0 false (entryOf (load p y) x)
   pub kept : SameKept p (load p y)
-  -- "the page x = B[f] is copied whole to swap": no other page of swap changes
-  pub swap : SwapStays p (victims p y) (load p y)
+  -- "the page x = B[f] is copied whole to swap"; but "An unmarked victim is not copied.": no other page of swap changes
+  pub swap : SwapStays p (copied p y) (load p y)
+  -- a mark is "cleared by a load": that of the frame that it takes, and no other
+  pub cleared : marked (load p y .machine .book .marks) (frame (p .machine .shape .frames) (p .machine .book)) ≡ false
+  pub others : (f : ℕ) → ¬ (f ≡ frame (p .machine .shape .frames) (p .machine .book))
+      → marked (load p y .machine .book .marks) f ≡ marked (p .machine .book .marks) f
   -- whichever page z comes next, y is not the one that leaves
   pub remains : (z : VirtualPage) → ¬ List·Memᴰ y (victims (load p y) z)
 
@@ -80,7 +84,7 @@ pub record OneInstruction (c : Counted) : Type 0 where
   pub together : Finishes (instruction c) → (d : Demand) × (demandOf (flat (c .state)) ≡ d ∷ []) × Holds (residents (leaves (instruction c) .state)) d
   -- "An instruction has at most two loads."
   pub few : Few 2 c (instruction c)
-  pub swap : SwapStays (c .state) (instructionVictims (c .state)) (leaves (instruction c) .state)
+  pub swap : SwapStays (c .state) (instructionCopies (c .state)) (leaves (instruction c) .state)
 
 abbrev pub EachInstruction : Type 0
 EachInstruction = (c : Counted) → Good (c .state) → OneInstruction c
@@ -89,7 +93,9 @@ EachInstruction = (c : Counted) → Good (c .state) → OneInstruction c
 pub record OneRun (p : State) (n : ℕ) : Type 0 where
   -- the loads reported are the handler's steps, in the order of arrival; and the length of the order of demands
   pub served : RunServed leaving p n (runCall p n)
-  pub swap : SwapStays p (runVictims n (uncounted p)) (runCall p n .state)
+  -- "pages copied back, tied to the handler's steps": those whose victim was marked
+  pub copied : runCall p n .numbers .copied ≡ length (runCopies n (uncounted p))
+  pub swap : SwapStays p (runCopies n (uncounted p)) (runCall p n .state)
 
 abbrev pub EachRun : Type 0
 EachRun = (p : State) → Good p → (n : ℕ) → n ≤ 1000000 → OneRun p n

@@ -21,6 +21,8 @@ pub record RunsFlat (o : RunOutcome) (c : Course Flat) : Type 0 where
 pub record FewLoads (r : RunNumbers) : Type 0 where
   pub most : r .loads ≤ 2 * r .finished + 1
   pub limit : r .stop ≡ 0 → r .loads ≤ 2 * r .finished
+  -- of the pages put out, at most one a load, some are copied back
+  pub copied : r .copied ≤ r .loads
 
 -- a run with outcome o ended by one of the stops 2 to 4
 abbrev pub Halting : RunOutcome → Type 0

@@ -35,5 +35,5 @@ pub record LoadedFrom (l : List ℕ) (m : Memory) (p : State) : Type 0 where
   pub main-long : length (p .memory .main) ≡ length (m .main)
   pub swap-long : length (p .memory .swap) ≡ length (m .swap)
   pub fitting : fits (p .machine .shape) (p .memory) ≡ true
-  pub sound-machine : sound (p .machine) (p .memory .main) ≡ true
+  pub sound-machine : sound (p .machine) (p .memory) ≡ true
   pub onward : (after : Verdict) → machineVerdict p after ≡ after

@@ -49,7 +49,7 @@ pub record Summary : Type 0 where
   pub demand-1 : Demand1
   -- "Each instruction does what the virtual DLX does on one flat memory with rights, and each page moves as document 01 fixes. The
   -- host's reads and writes meet that same flat memory. Outside the frames, a call changes main memory only in the table entries that
-  -- a page load names." There "bits 11–3 stay as the host put them."
+  -- a page load names." There "bits 11–3 stay as the host put them." A write sets the marks of the frames whose pages get a byte.
   pub demand-2 : EverySound
   -- "From a fresh machine with a frames, over any series of run, host and reply calls, the pages loaded are counted truly and are at
   -- most a times the loads of any other schedule for the same instructions in the same order." It "holds also where the host changes
@@ -61,9 +61,11 @@ pub record Summary : Type 0 where
   -- and its pages are resident together at its end
   pub instructions : EachInstruction
   -- "one with an invented load count (it equals the handler's steps in the definition)"; "So pages leave in the order of arrival". The
-  -- order of demands has one for each instruction finished, and for one that stopped after a legal fetch.
+  -- order of demands has one for each instruction finished, and for one that stopped after a legal fetch. "A run also reports pages
+  -- copied back, tied to the handler's steps."
   pub runs : EachRun
-  -- "the page x = B[f] is copied whole to swap .. All other bytes stay." In both entries that it touches a load "changes only ppx and v".
+  -- "the page x = B[f] is copied whole to swap .. All other bytes stay."; but "An unmarked victim is not copied." In both entries that
+  -- it touches a load "changes only ppx and v", and of the marks it clears that of its frame.
   pub loads : EachLoad
   -- "and the page loaded last (MRL in 000) is never the victim", in any book with b ≤ a and hand as soundness has it
   pub last : NeverVictim

@@ -11,7 +11,7 @@ use Rattle.model.specs.Attempt.{tried}
 use Rattle.model.specs.Run.{goes, stops, Course, answered, ended, more, follow, run}
 use Rattle.model.specs.Flat.{Flat, flatTry, flatPut, flatInstruction}
 use Rattle.model.specs.declared.Outcome.{Outcome}
-use Rattle.model.specs.declared.Outcome.the-variants.{Done, Trapped, Missing, Stopped}
+use Rattle.model.specs.declared.Outcome.the-variants.{Done, Wrote, Trapped, Missing, Stopped}
 use Rattle.model.specs.declared.Stop.{Stop}
 use Rattle.model.specs.declared.Stop.the-variants.{Limit, Trap, IllegalMemory}
 use Rattle.laws.proofs.Choice.{clash}
@@ -22,9 +22,10 @@ flat-halts : (f : Flat) (s : Stop) (k : ℕ) (left : Flat) → flatInstruction f
 unfolding flatInstruction
 flat-halts f s k left e h = by (flatTry f .outcome) (flatTry f .gpr) (flatTry f .bytes) e
   where
-    by : (o : Outcome) (gpr bytes : List ℕ) → answered f (flatPut f) (λ va. stops (IllegalMemory va) 0 f) (tried o gpr bytes) ≡ stops s k left
+    by : (o : Outcome) (gpr bytes : List ℕ) → answered f (flatPut f) (λ i g. g) (λ va. stops (IllegalMemory va) 0 f) (tried o gpr bytes) ≡ stops s k left
         → (k ≡ 0) × (left ≡ f)
     by (Done pcs) gpr bytes q = clash (cc)
+    by (Wrote pcs i) gpr bytes q = clash (cc)
     by (Trapped pcs n) gpr bytes q = let z : s ≡ Trap n = cc in absurd (omega (arith, h, ap stopNumber z))
     by (Missing va) gpr bytes q = (cc, cc)
     by (Stopped t) gpr bytes q = (cc, cc)

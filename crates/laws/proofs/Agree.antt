@@ -1,5 +1,6 @@
 -- One attempt on two memories, where each access that the first grants or misses the second grants at the address itself: unless
--- the first misses a page, the two come to the same (`attempt-both`). `Both` lists every way an attempt can accessed, with its cause.
+-- the first misses a page, the two come to the same, each store at its own place (`attempt-both`). `Both` lists every way an attempt
+-- can go, with its cause.
 use mathlib.Core.Path.{_≡_, refl}
 use mathlib.Core.Bool.{Bool, true, false}
 use mathlib.Core.List.{List}
@@ -16,7 +17,8 @@ use Rattle.model.specs.declared.Plan.{Plan}
 use Rattle.model.specs.declared.Plan.the-variants.{Unknown, Set, LoadByte, LoadHalf, LoadWord, StoreByte, StoreHalf, StoreWord, Trapping}
 use Rattle.model.specs.declared.Stop.{Stop}
 use Rattle.model.specs.declared.Stop.the-variants.{IllegalMemory, Misaligned, IllegalInstruction}
-use Rattle.model.specs.declared.Outcome.the-variants.{Done, Trapped, Missing, Stopped}
+use Rattle.model.specs.declared.Outcome.{Outcome}
+use Rattle.model.specs.declared.Outcome.the-variants.{Done, Wrote, Trapped, Missing, Stopped}
 
 -- the second memory has each address at the address itself, and never faults
 pub record Agrees (access : Bool → ℕ → Access) (bytes : List ℕ) (access′ : Bool → ℕ → Access) (bytes′ : List ℕ) : Type 0 where
@@ -31,6 +33,11 @@ pub data Halts : Stop → Type 0 where
   at-memory : {va : ℕ} → Halts (IllegalMemory va)
   at-alignment : {va : ℕ} → Halts (Misaligned va)
   at-word : {w : ℕ} → Halts (IllegalInstruction w)
+
+-- the attempt is carried out, and the machine goes on
+pub data Finishes : Outcome → Type 0 where
+  done : {pcs : Pcs} → Finishes (Done pcs)
+  wrote : {pcs : Pcs} {i : ℕ} → Finishes (Wrote pcs i)
 
 -- the address of the load or store that a plan asks for
 abbrev pub address : Plan → ℕ
@@ -49,12 +56,13 @@ module _ (access : Bool → ℕ → Access) (bytes : List ℕ) (access′ : Bool
   pub data Both : Tried → Tried → Type 0 where
     halts : {s : Stop} → Halts s → Both (tried (Stopped s) gpr bytes) (tried (Stopped s) gpr bytes′)
     misses-code : {t : Tried} → access false (pcs .dpc) ≡ Fault → Both (tried (Missing (pcs .dpc)) gpr bytes) t
-    misses-data : {va : ℕ} {p : Pcs} {r b : List ℕ} → (writing : Bool) → access writing va ≡ Fault
-        → va ≡ address (plan gpr (pcs .next) (number 4 bytes′ (pcs .dpc))) → Both (tried (Missing va) gpr bytes) (tried (Done p) r b)
+    misses-data : {va : ℕ} {t : Tried} → (writing : Bool) → access writing va ≡ Fault
+        → va ≡ address (plan gpr (pcs .next) (number 4 bytes′ (pcs .dpc))) → Finishes (t .outcome) → Both (tried (Missing va) gpr bytes) t
     sets : (rd v target : ℕ) → Both (tried (Done (pcsTo access gpr bytes pcs target)) (written gpr rd v) bytes)
         (tried (Done (pcsTo access gpr bytes pcs target)) (written gpr rd v) bytes′)
     stores : (width : Width) (va i v : ℕ) → aligned (size width) va ≡ true → access true va ≡ At i
-        → Both (tried (Done (pcsOnward access gpr bytes pcs)) gpr (store (size width) bytes i v)) (tried (Done (pcsOnward access gpr bytes pcs)) gpr (store (size width) bytes′ va v))
+        → Both (tried (Wrote (pcsOnward access gpr bytes pcs) i) gpr (store (size width) bytes i v))
+        (tried (Wrote (pcsOnward access gpr bytes pcs) va) gpr (store (size width) bytes′ va v))
     traps : (n : ℕ) → Both (tried (Trapped (pcsOnward access gpr bytes pcs) n) gpr bytes) (tried (Trapped (pcsOnward access gpr bytes pcs) n) gpr bytes′)
 
   module _ (h : Agrees access bytes access′ bytes′) where
@@ -87,11 +95,11 @@ module _ (access : Bool → ℕ → Access) (bytes : List ℕ) (access′ : Bool
         → Both (obeyLoad access gpr bytes pcs width signed rd va) (obeyLoad access′ gpr bytes′ pcs width signed rd va)
     unfolding obeyLoad
     load-both width signed rd va q =
-        transfer-both false width va _ _ (λ e. misses-data false e q) (λ i a e. rw (h .reads false width va i a e) (sets rd _ _))
+        transfer-both false width va _ _ (λ e. misses-data false e q done) (λ i a e. rw (h .reads false width va i a e) (sets rd _ _))
 
     store-both : (width : Width) (va v : ℕ) → Asked va → Both (obeyStore access gpr bytes pcs width va v) (obeyStore access′ gpr bytes′ pcs width va v)
     unfolding obeyStore
-    store-both width va v q = transfer-both true width va _ _ (λ e. misses-data true e q) (λ i a e. stores width va i v a e)
+    store-both width va v q = transfer-both true width va _ _ (λ e. misses-data true e q wrote) (λ i a e. stores width va i v a e)
 
     obey-both : (w : ℕ) (p : Plan) → Asked (address p) → Both (obey access gpr bytes pcs w p) (obey access′ gpr bytes′ pcs w p)
     unfolding obey

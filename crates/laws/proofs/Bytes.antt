@@ -1,17 +1,20 @@
 -- Laws of numbers and pages in a list of bytes: what is read after a store, and after a page is put in.
 use mathlib.Core.Path.{_≡_, refl, sym, ap, ap₂, _∙_}
-use mathlib.Core.List.{List, _++_}
+use mathlib.Core.Bool.{true, false≢true}
+use mathlib.Core.List.{List, [], _∷_, _++_}
 use Prim.Native.Nat.{ℕ, zero, suc, _+_, _-_, _*_, _/_, _%_, _^_, _<_, _≤_}
 use native.Mathlib.Omega.{arith}
 use native.Mathlib.Nat.{suc-add, add-suc, add-zero, not-suc-le-zero, mod-one, div-div-eq-div-mul, pow-suc, mul-comm, add-comm}
 use native.Mathlib.Decide.{decLt}
 use native.Mathlib.Numerals.{add-one, add-two, add-three}
 use lib.Arith.{mod-mul}
-use lib.Dec.{lit<}
+use lib.Dec.{lit<, eqb}
 use lib.ListN.{length, getD, set, take, drop, length-set, List·getD-append, length-append, length-take, length-drop}
+use borrow.Author.Tests.{eqb-true, eq-eqb}
 use lib.Seq.{getD-set-same, getD-set-other, getD-append-add, getD-take, getD-drop, length-take-le, take-at, drop-at}
-use Rattle.model.specs.Bytes.{number, store, page, withPage}
+use Rattle.model.specs.Bytes.{number, store, page, withPage, same}
 use Rattle.laws.specs.Named.{Off}
+use Rattle.laws.proofs.Choice.{and-left, and-right, and-both}
 
 -- ---- numbers
 -- two numbers are the same where their bytes are
@@ -142,3 +145,16 @@ unfolding store
 store-four l i v =
     ap₂ (λ (x y : ℕ). set (set (set (set l i (v % 256)) (suc i) (v / 256 % 256)) (suc (suc i)) (x % 256)) (suc (suc (suc i))) (y % 256)) (div-div-eq-div-mul v 256 256) (ap (λ (x : ℕ). x / 256) (div-div-eq-div-mul v 256 256) ∙ div-div-eq-div-mul v 65536 256)
     ∙ sym (simp (add-one, add-two, add-three))
+
+-- ---- two lists are equal, byte by byte
+pub same-equal : (a b : List ℕ) → same a b ≡ true → a ≡ b
+unfolding same
+same-equal [] [] e = refl
+same-equal [] (y ∷ ys) e = absurd (false≢true e)
+same-equal (x ∷ xs) [] e = absurd (false≢true e)
+same-equal (x ∷ xs) (y ∷ ys) e = ap₂ _∷_ (eqb-true x y (and-left (eqb x y) (same xs ys) e)) (same-equal xs ys (and-right (eqb x y) (same xs ys) e))
+
+pub equal-same : (a : List ℕ) → same a a ≡ true
+unfolding same
+equal-same [] = refl
+equal-same (x ∷ xs) = and-both (eqb x x) (same xs xs) (eq-eqb x x refl) (equal-same xs)

@@ -1,14 +1,17 @@
 -- The calls on a good machine: what is handed out and what is written, where they are granted, against the flat memory (`read-call`,
--- `view-call`, `write-call`, `reply-call`); and refused or not the machine stays good (`call-good`), of its shape (`call-size`), and
--- bits 11–1 of its entries stay (`call-kept`). It stays good over any series of steps (`series-good`).
+-- `view-call`, `write-call`, `reply-call`); the frames that a write marks (`write-marks`); and refused or not the machine stays good
+-- (`call-good`), of its shape (`call-size`), and bits 11–1 of its entries stay (`call-kept`). It stays good over any series of steps
+-- (`series-good`).
 use mathlib.Core.Path.{_≡_, refl, ap, ap₂, _∙_}
+use mathlib.Core.Logic.{_↔_, _⊎_}
 use mathlib.Core.Bool.{true, false}
 use mathlib.Core.List.{List, [], _∷_}
-use Prim.Native.Nat.{ℕ, _*_}
+use Prim.Native.Nat.{ℕ, _*_, _<_}
 use native.Mathlib.Omega.{arith}
 use lib.ListN.{length, getD, take, drop}
 use lib.Seq.{getD-set-other}
 use Rattle.model.specs.Bytes.{page}
+use Rattle.model.specs.Frames.{pageIn, marked}
 use Rattle.model.specs.State.{State}
 use Rattle.model.specs.Run.{uncounted}
 use Rattle.model.specs.Flat.{Flat, flat}
@@ -21,13 +24,14 @@ use Rattle.model.specs.declared.Verdict.the-variants.{Granted, Refused}
 use Rattle.laws.specs.Good.{Good}
 use Rattle.laws.specs.Mapped.{SameSize}
 use Rattle.laws.specs.Entries.{SameKept}
-use Rattle.laws.specs.Demand2.{flatWrite, withRegister}
+use Rattle.laws.specs.Demand2.{flatWrite, withMarks, Gets, withRegister}
 use Rattle.laws.specs.Named.{Off}
+use Rattle.laws.proofs.Seated.{seated-marks, hand-marks}
 use Rattle.laws.proofs.Size.{same-size}
 use Rattle.laws.proofs.Run.{run-right}
 use Rattle.laws.proofs.Spare.{off-kept, run-kept, spared-machine, spared-good}
 use Rattle.laws.proofs.Poke.{kept-rights, kept-fit, kept-seated}
-use Rattle.laws.proofs.Host.{Wrote, wrote, sets-put, read-flat, view-flat}
+use Rattle.laws.proofs.Host.{Wrote, wrote, sets-put, marks-for, clean-to, read-flat, view-flat}
 use Rattle.laws.proofs.Granted.{refused, host-inside, view-inside, reply-register}
 
 -- a reply is the same on every machine
@@ -76,12 +80,28 @@ module _ (p : State) (g : Good p) where
             (kept-rights (p .machine .shape) (p .memory) (bytesTo (p .machine .shape) (p .memory) va bytes) (g .fit) (granted q .kept))
         by (Refused r) q e = refused r e
 
+    -- each frame whose page gets a byte has its mark then, and each that had it
+    pub write-marks : writeCall p va bytes .verdict .refused ≡ 0 → (f : ℕ) → f < p .machine .book .used
+        → (marked (writeCall p va bytes .state .machine .book .marks) f ≡ true)
+        ↔ ((marked (p .machine .book .marks) f ≡ true) ⊎ Gets va (length bytes) (pageIn (p .machine .book) f))
+    unfolding writeCall
+    write-marks = by (hostVerdict true p va (length bytes)) refl
+      where
+        by : (v : Verdict) → hostVerdict true p va (length bytes) ≡ v → writeBy v p va bytes .verdict .refused ≡ 0
+            → (f : ℕ) → f < p .machine .book .used
+            → (marked (writeBy v p va bytes .state .machine .book .marks) f ≡ true)
+            ↔ ((marked (p .machine .book .marks) f ≡ true) ⊎ Gets va (length bytes) (pageIn (p .machine .book) f))
+        by Granted q e =
+            marks-for (p .machine .shape) (p .machine .book) (p .memory .main) (g .seated) va (length bytes) (host-inside true p va (length bytes) q)
+            (p .machine .book .marks)
+        by (Refused r) q e = refused r e
+
     -- refused or not
-    pub write-machine : writeCall p va bytes .state .machine ≡ p .machine
+    pub write-machine : writeCall p va bytes .state .machine ≡ withMarks (p .machine) (writeCall p va bytes .state .machine .book .marks)
     unfolding writeCall
     write-machine = by (hostVerdict true p va (length bytes))
       where
-        by : (v : Verdict) → writeBy v p va bytes .state .machine ≡ p .machine
+        by : (v : Verdict) → writeBy v p va bytes .state .machine ≡ withMarks (p .machine) (writeBy v p va bytes .state .machine .book .marks)
         by Granted = refl
         by (Refused r) = refl
 
@@ -102,8 +122,11 @@ module _ (p : State) (g : Good p) where
         by Granted q = record {
           fit = kept-fit (p .machine .shape) (p .memory) (bytesTo (p .machine .shape) (p .memory) va bytes) (g .fit) (granted q .kept);
           whole = granted q .kept .swap-long ∙ g .whole;
-          seated = kept-seated (p .machine .shape) (p .memory) (bytesTo (p .machine .shape) (p .memory) va bytes) (g .fit) (granted q .kept) (p .machine .book) (g .seated);
-          hand = g .hand;
+          seated = seated-marks (p .machine .shape) (p .machine .book) _ _
+              (kept-seated (p .machine .shape) (p .memory) (bytesTo (p .machine .shape) (p .memory) va bytes) (g .fit) (granted q .kept) (p .machine .book) (g .seated));
+          hand = hand-marks (p .machine .shape .frames) (p .machine .book) _ (g .hand);
+          clean = clean-to (p .machine .shape) (p .machine .book) (p .memory) (g .fit) (g .whole) (g .seated) va bytes
+              (host-inside true p va (length bytes) q) (p .machine .book .marks) (g .clean);
           zero = g .zero;
         }
         by (Refused r) q = g
@@ -127,6 +150,7 @@ module _ (p : State) (g : Good p) where
         whole = g .whole;
         seated = g .seated;
         hand = g .hand;
+        clean = g .clean;
         zero = getD-set-other (p .machine .gpr) i 0 v 0 (λ e. omega (arith, e, reply-register i q)) ∙ g .zero;
       }
       by (Refused r) q = g

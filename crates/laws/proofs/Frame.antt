@@ -1,13 +1,14 @@
 -- "Outside the frames, a call changes main memory only in the table entries that a page load names", and swap only in the pages that
--- it names: so for an instruction (`instruction-off`) and for a run of any length (`run-off`). Swap changes in the victims' pages alone
--- (`instruction-swap-off`, `run-swap-off`).
+-- it names: so for an instruction (`instruction-off`) and for a run of any length (`run-off`). Swap changes in the pages alone that are
+-- copied back (`instruction-swap-off`, `run-swap-off`).
 use mathlib.Core.Path.{_≡_, refl, ap, subst, subst⁻¹, _∙_}
+use mathlib.Core.Bool.{true, false}
 use mathlib.Core.List.{List, _++_, List·Memᴰ, List·Memᴰ·head, List·Memᴰ·tail, Memᴰ·append-left, Memᴰ·append-right}
 use Prim.Native.Nat.{ℕ, suc, _*_, _<_, _≤_}
-use borrow.Author.Tests.{le-ltb}
+use borrow.Author.Tests.{le-ltb, not-true}
 use lib.ListN.{getD}
 use Rattle.model.specs.Pages.{pageOf, entryAt, swapOf}
-use Rattle.model.specs.Frames.{pageIn, frame}
+use Rattle.model.specs.Frames.{pageIn, free, frame, copies}
 use Rattle.model.specs.State.{State}
 use Rattle.model.specs.Handler.{load}
 use Rattle.model.specs.Run.{Step, goes, Counted, try, served, attempts, instruction, run}
@@ -16,7 +17,8 @@ use Rattle.model.specs.declared.VirtualPage.{VirtualPage}
 use Rattle.model.specs.declared.Outcome.the-variants.{Missing}
 use Rattle.laws.specs.Good.{Good}
 use Rattle.laws.specs.Mapped.{leaves}
-use Rattle.laws.specs.Named.{Off, loadVictims, namesOnward, alongAttempts, alongInstruction, alongRun, names, victims, instructionNames, runNames, instructionVictims, runVictims}
+use Rattle.laws.specs.Named.{Off, namesOnward, alongAttempts, alongInstruction, alongRun, names, copied, instructionNames, runNames, instructionCopies, runCopies}
+use Rattle.laws.proofs.Choice.{and-left}
 use Rattle.laws.proofs.Outside.{load-off, load-swap-off}
 use Rattle.laws.proofs.Attempt.{missing}
 use Rattle.laws.proofs.Third.{enough}
@@ -62,21 +64,24 @@ module _ (s : Shape) (xs ys : List VirtualPage) (j : Place) (h : Beside s (xs ++
   beside-then : Beside s ys j
   beside-then = record { unframed = h .unframed; clear = λ x q. h .clear x (Memᴰ·append-right xs q) }
 
--- ---- the pages that a load writes of: in main memory both entries, in swap the victim's page
+-- ---- the pages that a load writes of: in main memory both entries, in swap the page that is copied back
 abbrev VictimIn : State → List VirtualPage → Type 0
-VictimIn p xs =
-    p .machine .shape .frames ≤ p .machine .book .used → List·Memᴰ (pageIn (p .machine .book) (frame (p .machine .shape .frames) (p .machine .book))) xs
+VictimIn p xs = List·Memᴰ (pageIn (p .machine .book) (frame (p .machine .shape .frames) (p .machine .book))) xs
 
 abbrev Tells : (State → VirtualPage → List VirtualPage) → Place → Type 0
-Tells told (in-main j) = (p : State) (y : VirtualPage) → List·Memᴰ y (told p y) × VictimIn p (told p y)
-Tells told (in-swap j) = (p : State) (y : VirtualPage) → VictimIn p (told p y)
-
-victim-in : (p : State) → VictimIn p (loadVictims (p .machine .shape .frames) (p .machine .book))
-victim-in p q = rw (le-ltb (p .machine .book .used) (p .machine .shape .frames) q) (List·Memᴰ·head refl)
+Tells told (in-main j) =
+    (p : State) (y : VirtualPage) → List·Memᴰ y (told p y) × (p .machine .shape .frames ≤ p .machine .book .used → VictimIn p (told p y))
+Tells told (in-swap j) = (p : State) (y : VirtualPage) → copies (p .machine .shape .frames) (p .machine .book) ≡ true → VictimIn p (told p y)
 
 names-tell : (j : Place) → Tells names j
-names-tell (in-main j) = λ p y. (List·Memᴰ·head refl, λ q. List·Memᴰ·tail (victim-in p q))
-names-tell (in-swap j) = λ p y q. List·Memᴰ·tail (victim-in p q)
+names-tell (in-main j) =
+    λ p y. (List·Memᴰ·head refl, λ q. rw (le-ltb (p .machine .book .used) (p .machine .shape .frames) q) (List·Memᴰ·tail (List·Memᴰ·head refl)))
+names-tell (in-swap j) = λ p y e.
+    let q : free (p .machine .shape .frames) (p .machine .book) ≡ false = not-true _ (and-left _ _ e) in
+    rw q (List·Memᴰ·tail (List·Memᴰ·head refl))
+
+copied-tell : (j : ℕ) → Tells copied (in-swap j)
+copied-tell j p y e = rw e (List·Memᴰ·head refl)
 
 -- ---- one byte, where its pages are told
 module _ (told : State → VirtualPage → List VirtualPage) where
@@ -145,13 +150,13 @@ instruction-off c g j = instruction-at names j (names-tell j) c g
 pub run-off : (n : ℕ) (c : Counted) → Good (c .state) → Stays c (runNames n c) (run instruction n c .left)
 run-off n c g j = run-at names j (names-tell j) n c g
 
--- ---- a byte of swap, where the victims are told
+-- ---- a byte of swap, where the pages that are copied back are told
 pub load-swap-stays : (c : Counted) → Good (c .state) → (y : VirtualPage) → y .0 < c .state .machine .shape .ptl
-    → (j : ℕ) → StaysAt (in-swap j) c (victims (c .state) y) (served c y)
-load-swap-stays c g y hy j = load-at victims (in-swap j) (λ p y. victim-in p) c g y hy
+    → (j : ℕ) → StaysAt (in-swap j) c (copied (c .state) y) (served c y)
+load-swap-stays c g y hy j = load-at copied (in-swap j) (copied-tell j) c g y hy
 
-pub instruction-swap-off : (c : Counted) → Good (c .state) → (j : ℕ) → StaysAt (in-swap j) c (instructionVictims (c .state)) (leaves (instruction c))
-instruction-swap-off c g j = instruction-at victims (in-swap j) (λ p y. victim-in p) c g
+pub instruction-swap-off : (c : Counted) → Good (c .state) → (j : ℕ) → StaysAt (in-swap j) c (instructionCopies (c .state)) (leaves (instruction c))
+instruction-swap-off c g j = instruction-at copied (in-swap j) (copied-tell j) c g
 
-pub run-swap-off : (n : ℕ) (c : Counted) → Good (c .state) → (j : ℕ) → StaysAt (in-swap j) c (runVictims n c) (run instruction n c .left)
-run-swap-off n c g j = run-at victims (in-swap j) (λ p y. victim-in p) n c g
+pub run-swap-off : (n : ℕ) (c : Counted) → Good (c .state) → (j : ℕ) → StaysAt (in-swap j) c (runCopies n c) (run instruction n c .left)
+run-swap-off n c g j = run-at copied (in-swap j) (copied-tell j) n c g

@@ -141,6 +141,7 @@ module _ (l : List ℕ) (m : Memory) (a : Accepted l m) where
     whole = fresh-swap-long ∙ a .roomy .swap-long ∙ ap (λ (k : ℕ). 4096 * k) (sym (zero-add (ptlOf l)));
     seated = fresh-seated;
     hand = fresh-hand;
+    clean = record { equal = λ i q u. absurd (not-suc-le-zero q); unused = omega arith };
     zero = refl;
   }
 

@@ -54,11 +54,11 @@ refused-first true false x y r after e = e
 refused-first false b x y r after e = e
 
 pub machine-granted : (p : State) (v : Verdict) → machineVerdict p v ≡ Granted
-    → (fits (p .machine .shape) (p .memory) ≡ true) × (sound (p .machine) (p .memory .main) ≡ true) × (v ≡ Granted)
+    → (fits (p .machine .shape) (p .memory) ≡ true) × (sound (p .machine) (p .memory) ≡ true) × (v ≡ Granted)
 unfolding machineVerdict
 machine-granted p v e =
     let f = unless-granted (fits (p .machine .shape) (p .memory)) Bound _ e in
-    let s = unless-granted (sound (p .machine) (p .memory .main)) Unsound v (f .1) in
+    let s = unless-granted (sound (p .machine) (p .memory)) Unsound v (f .1) in
     (f .0, s .0, s .1)
 
 pub host-inside : (writing : Bool) (p : State) (va n : ℕ) → hostVerdict writing p va n ≡ Granted → InTable (p .machine .shape) va n

@@ -6,10 +6,10 @@ use lib.ListN.{getD}
 use Rattle.model.specs.Pages.{pageOf}
 use Rattle.model.specs.Attempt.{Tried}
 use Rattle.model.specs.Handler.{load}
-use Rattle.model.specs.Run.{Step, goes, stops, answered, Counted, try, put, served, attempts, instruction}
+use Rattle.model.specs.Run.{Step, goes, stops, answered, Counted, try, put, note, served, attempts, instruction}
 use Rattle.model.specs.Flat.{flat, flatTry, flatInstruction}
 use Rattle.model.specs.declared.Outcome.{Outcome}
-use Rattle.model.specs.declared.Outcome.the-variants.{Done, Trapped, Missing, Stopped}
+use Rattle.model.specs.declared.Outcome.the-variants.{Done, Wrote, Trapped, Missing, Stopped}
 use Rattle.model.specs.declared.Stop.{Stop}
 use Rattle.model.specs.declared.Stop.the-variants.{Limit}
 use Rattle.laws.specs.Good.{Good}
@@ -40,7 +40,7 @@ not-limit at-alignment q = clash (cc)
 not-limit at-word q = clash (cc)
 
 settled : (c : Counted) → Good (c .state) → (again : ℕ → Step Counted) (t t′ : Tried) → Came (c .state) t t′ → flatTry (flatOf c) ≡ t′
-    → ((va : ℕ) → t .outcome ≡ Missing va → ⊥) → Settled c (answered c (put c) again t)
+    → ((va : ℕ) → t .outcome ≡ Missing va → ⊥) → Settled c (answered c (put c) note again t)
 unfolding flatInstruction flat
 settled c g again t t′ (halts h) e n = record {
   same = rw e refl;
@@ -52,7 +52,7 @@ settled c g again t t′ (halts h) e n = record {
   unlimited = λ n d q. not-limit h q;
 }
 settled c g again t t′ (misses-code f) e n = absurd (n _ refl)
-settled c g again t t′ (misses-data writing f a) e n = absurd (n _ refl)
+settled c g again t t′ (misses-data writing f a d) e n = absurd (n _ refl)
 settled c g again t t′ (sets rd v target) e n = record {
   same = rw e refl;
   good = set-good (c .state) g _ rd v;
@@ -88,14 +88,15 @@ module _ (Q : ℕ → Counted → Step Counted → Type 0)
     → Q k (served c (pageOf va)) (attempts k (served c (pageOf va))) → Q (suc k) c (attempts k (served c (pageOf va))))
   where
     split : (k : ℕ) (c : Counted) → Good (c .state) → (again : ℕ → Step Counted)
-        → ((va : ℕ) → try (c .state) .outcome ≡ Missing va → Q k c (again va)) → Q k c (answered c (put c) again (try (c .state)))
+        → ((va : ℕ) → try (c .state) .outcome ≡ Missing va → Q k c (again va)) → Q k c (answered c (put c) note again (try (c .state)))
     split k c g again f = by (try (c .state) .outcome) refl
       where
-        quiet : ((va : ℕ) → try (c .state) .outcome ≡ Missing va → ⊥) → Q k c (answered c (put c) again (try (c .state)))
+        quiet : ((va : ℕ) → try (c .state) .outcome ≡ Missing va → ⊥) → Q k c (answered c (put c) note again (try (c .state)))
         quiet n = settle k c g _ (settled c g again (try (c .state)) (flatTry (flatOf c)) (came (c .state)) refl n)
 
-        by : (o : Outcome) → try (c .state) .outcome ≡ o → Q k c (answered c (put c) again (try (c .state)))
+        by : (o : Outcome) → try (c .state) .outcome ≡ o → Q k c (answered c (put c) note again (try (c .state)))
         by (Done pcs) e = quiet (λ va q. clash (cc))
+        by (Wrote pcs i) e = quiet (λ va q. clash (cc))
         by (Trapped pcs n) e = quiet (λ va q. clash (cc))
         by (Missing va) e = rw e (f va e)
         by (Stopped s) e = quiet (λ va q. clash (cc))
@@ -108,11 +109,12 @@ module _ (Q : ℕ → Counted → Step Counted → Type 0)
 
 -- ---- a third load
 answered-same : (c : Counted) (again again′ : ℕ → Step Counted) → ((va : ℕ) → try (c .state) .outcome ≡ Missing va → again va ≡ again′ va)
-    → answered c (put c) again (try (c .state)) ≡ answered c (put c) again′ (try (c .state))
+    → answered c (put c) note again (try (c .state)) ≡ answered c (put c) note again′ (try (c .state))
 answered-same c again again′ h = by (try (c .state) .outcome) refl
   where
-    by : (o : Outcome) → try (c .state) .outcome ≡ o → answered c (put c) again (try (c .state)) ≡ answered c (put c) again′ (try (c .state))
+    by : (o : Outcome) → try (c .state) .outcome ≡ o → answered c (put c) note again (try (c .state)) ≡ answered c (put c) note again′ (try (c .state))
     by (Done pcs) e = rw e refl
+    by (Wrote pcs i) e = rw e refl
     by (Trapped pcs n) e = rw e refl
     by (Missing va) e = rw e (h va e)
     by (Stopped s) e = rw e refl

@@ -1,9 +1,10 @@
 -- An attempt leaves every entry of the table as it is: the same accesses go through as before, and they stay safe. One that does
--- not finish its instruction, or that traps, leaves everything as it is.
+-- not finish its instruction, or that traps, leaves everything as it is (`unchanged`). A store goes to a frame (`wrote-framed`).
 use mathlib.Core.Path.{_≡_, refl, sym, ap, subst⁻¹, _∙_}
 use mathlib.Core.Bool.{Bool, true, false}
 use mathlib.Core.List.{List, []}
-use Prim.Native.Nat.{ℕ, _<_}
+use Prim.Native.Nat.{ℕ, _+_, _/_, _<_, _≤_}
+use native.Mathlib.Omega.{arith}
 use borrow.Author.Tests.{ltb-true}
 use lib.Dec.{ltb}
 use lib.ListN.{length}
@@ -18,12 +19,13 @@ use Rattle.model.specs.declared.Shape.{Shape}
 use Rattle.model.specs.declared.VirtualPage.{VirtualPage}
 use Rattle.model.specs.declared.Pcs.{Pcs}
 use Rattle.model.specs.declared.Access.the-variants.{Illegal}
-use Rattle.model.specs.declared.Outcome.the-variants.{Done}
+use Rattle.model.specs.declared.Outcome.the-variants.{Wrote}
 use Rattle.laws.specs.Good.{Fit, Safe}
+use Rattle.laws.proofs.Choice.{clash}
 use Rattle.laws.proofs.Bytes.{length-store}
-use Rattle.laws.proofs.Access.{legal, permits, illegal, reads}
+use Rattle.laws.proofs.Access.{Through, through, legal, permits, illegal, reads}
 use Rattle.laws.proofs.Stores.{entry-kept}
-use Rattle.laws.proofs.Agree.{Both, halts, misses-code, misses-data, sets, stores, traps, attempt-both}
+use Rattle.laws.proofs.Agree.{Finishes, done, wrote, Both, halts, misses-code, misses-data, sets, stores, traps, attempt-both}
 
 -- two main memories whose tables say the same
 abbrev SameTable : Shape → List ℕ → List ℕ → Type 0
@@ -66,7 +68,7 @@ module _ (s : Shape) (main : List ℕ) (h : Safe s main) (gpr : List ℕ) (pcs :
       by : (t t′ : Tried) → Way t t′ → SameTable s main (t .bytes) × (length (t .bytes) ≡ length main)
       by t t′ (halts q) = ((λ x l. refl), refl)
       by t t′ (misses-code f) = ((λ x l. refl), refl)
-      by t t′ (misses-data w f a) = ((λ x l. refl), refl)
+      by t t′ (misses-data w f a d) = ((λ x l. refl), refl)
       by t t′ (sets rd v target) = ((λ x l. refl), refl)
       by t t′ (stores width va i v a f) = (entry-kept s main h width va i v a f, length-store (size width) main i v)
       by t t′ (traps n) = ((λ x l. refl), refl)
@@ -77,14 +79,27 @@ module _ (s : Shape) (main : List ℕ) (h : Safe s main) (gpr : List ℕ) (pcs :
   pub still-safe : Safe s after
   still-safe = safe-over s main after (stays .0) (stays .1) h
 
-  pub unchanged : ((q : Pcs) → attempt (translate s main) gpr main pcs .outcome ≡ Done q → ⊥)
-      → (attempt (translate s main) gpr main pcs .gpr ≡ gpr) × (after ≡ main)
+  pub unchanged : (Finishes (attempt (translate s main) gpr main pcs .outcome) → ⊥) → (attempt (translate s main) gpr main pcs .gpr ≡ gpr) × (after ≡ main)
   unchanged = by _ _ way
     where
-      by : (t t′ : Tried) → Way t t′ → ((q : Pcs) → t .outcome ≡ Done q → ⊥) → (t .gpr ≡ gpr) × (t .bytes ≡ main)
+      by : (t t′ : Tried) → Way t t′ → (Finishes (t .outcome) → ⊥) → (t .gpr ≡ gpr) × (t .bytes ≡ main)
       by t t′ (halts q) n = (refl, refl)
       by t t′ (misses-code f) n = (refl, refl)
-      by t t′ (misses-data w f a) n = (refl, refl)
-      by t t′ (sets rd v target) n = absurd (n _ refl)
-      by t t′ (stores width va i v a f) n = absurd (n _ refl)
+      by t t′ (misses-data w f a d) n = (refl, refl)
+      by t t′ (sets rd v target) n = absurd (n done)
+      by t t′ (stores width va i v a f) n = absurd (n wrote)
       by t t′ (traps k) n = (refl, refl)
+
+  pub wrote-framed : (q : Pcs) (i : ℕ) → attempt (translate s main) gpr main pcs .outcome ≡ Wrote q i → (s .abase ≤ i / 4096) × (i / 4096 < s .abase + s .frames)
+  wrote-framed q i = by _ _ way
+    where
+      by : (t t′ : Tried) → Way t t′ → t .outcome ≡ Wrote q i → (s .abase ≤ i / 4096) × (i / 4096 < s .abase + s .frames)
+      by t t′ (halts h) e = clash (cc)
+      by t t′ (misses-code f) e = clash (cc)
+      by t t′ (misses-data w f a d) e = clash (cc)
+      by t t′ (sets rd v target) e = clash (cc)
+      by t t′ (stores width va k v a f) e =
+          let z : k ≡ i = cc in
+          let u : Through s main true va k = through s main true va k f in
+          (omega (arith, z, u .at, h .framed (pageOf va) (u .inside) (u .here) .0), omega (arith, z, u .at, h .framed (pageOf va) (u .inside) (u .here) .1))
+      by t t′ (traps k) e = clash (cc)

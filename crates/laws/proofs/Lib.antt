@@ -4,6 +4,7 @@ pub mod Over
 pub mod Numbers
 pub mod Bytes
 pub mod Parts
+pub mod Marks
 pub mod Seated
 pub mod Entries
 pub mod Table
@@ -13,6 +14,7 @@ pub mod Sound
 pub mod Moves
 pub mod Seats
 pub mod Handler
+pub mod Cleaned
 pub mod Load
 pub mod Agree
 pub mod Simulate
@@ -23,6 +25,7 @@ pub mod Size
 pub mod Instruction
 pub mod Run
 pub mod Loads
+pub mod Copies
 pub mod Outside
 pub mod Frame
 pub mod Spare

@@ -1,5 +1,5 @@
--- One load of the handler, of a page that is in swap: the book and the table stay in step, the page is valid afterwards, only the
--- victim goes, bits 11–1 of every entry stay, and no flat byte, no right and no register changes.
+-- One load of the handler, of a page that is in swap: the book and the table stay in step, the page is valid afterwards and its frame
+-- has no mark, only the victim goes, bits 11–1 of every entry stay, and no flat byte, no right and no register changes.
 use mathlib.Core.Path.{_≡_, sym, ap, ap₂, subst⁻¹, _∙_}
 use mathlib.Core.Bool.{true, false, true≢false}
 use Prim.Native.Nat.{ℕ, _+_, _*_, _<_, _≤_}
@@ -8,7 +8,7 @@ use native.Mathlib.Decide.{decLt, ℕ-discrete}
 use lib.ListN.{length}
 use Rattle.model.specs.Pages.{pageOf, virtual, frameAt}
 use Rattle.model.specs.Table.{entry, ppx, valid, kept}
-use Rattle.model.specs.Frames.{pageIn, frame, advanced}
+use Rattle.model.specs.Frames.{pageIn, marked, frame, advanced}
 use Rattle.model.specs.State.{Memory, State}
 use Rattle.model.specs.Translate.{flatByte}
 use Rattle.model.specs.Handler.{loaded, load}
@@ -16,13 +16,14 @@ use Rattle.model.specs.Flat.{Flat, flat}
 use Rattle.model.specs.declared.Shape.{Shape}
 use Rattle.model.specs.declared.FrameBook.{FrameBook}
 use Rattle.model.specs.declared.VirtualPage.{VirtualPage}
-use Rattle.laws.specs.Good.{Fit, SwapLong, Hand, Seated, Good}
+use Rattle.laws.specs.Good.{Fit, SwapLong, Hand, Seated, Clean, Good}
 use Rattle.laws.specs.Entries.{Place, SameKept}
 use Rattle.laws.proofs.Choice.{below-same}
 use Rattle.laws.proofs.Entries.{ppx-brought, ppx-out, valid-brought, valid-out, kept-brought, kept-out, same-rights}
 use Rattle.laws.proofs.Moves.{page-discrete}
 use Rattle.laws.proofs.Seats.{Seats, frame-free, frame-most, frame-used, seats}
 use Rattle.laws.proofs.Handler.{Loads, strange, moved}
+use Rattle.laws.proofs.Cleaned.{cleared, others, cleaned}
 -- the two cases of the definitions
 pub use Rattle.laws.proofs.Seats.{advanced-free, advanced-full}
 pub use Rattle.laws.proofs.Handler.{loaded-free, loaded-full}
@@ -33,6 +34,9 @@ pub record PageLoaded (s : Shape) (b : FrameBook) (m : Memory) (y : VirtualPage)
   pub swap-long : length (loaded s b m y .swap) ≡ length (m .swap)
   pub seated : Seated s (advanced (s .frames) b y) (loaded s b m y .main)
   pub hand : Hand (s .frames) (advanced (s .frames) b y)
+  pub clean : Clean s (advanced (s .frames) b y) (loaded s b m y)
+  pub cleared : marked (advanced (s .frames) b y .marks) (frame (s .frames) b) ≡ false
+  pub others : (i : ℕ) → (i ≡ frame (s .frames) b → ⊥) → marked (advanced (s .frames) b y .marks) i ≡ marked (b .marks) i
   pub stays : (z : VirtualPage) → z .0 < s .ptl → (z ≡ y → ⊥) → (s .frames ≤ b .used → z ≡ pageIn b (frame (s .frames) b) → ⊥)
       → entry s (loaded s b m y .main) z ≡ entry s (m .main) z
   pub came : Place (s .abase + frame (s .frames) b) true (entry s (loaded s b m y .main) y)
@@ -130,12 +134,15 @@ module _ (s : Shape) (b : FrameBook) (m : Memory) (h : Fit s (length (m .main)))
         pick (no n) (yes e) (yes c) = ap kept (l .stays z hz n (λ q r. omega (arith, c, q)))
         pick (no n) (no d) c = ap kept (l .stays z hz n (λ q r. d r))
 
-  pub loads : PageLoaded s b m y
-  loads = record {
+  pub loads : Clean s b m → PageLoaded s b m y
+  loads clean = record {
     main-long = l .main-long;
     swap-long = l .swap-long;
     seated = seated′ b′ m′ f hf fresh l t;
     hand = t .hand;
+    clean = cleaned s b m y b′ m′ f t g hf l clean;
+    cleared = cleared s b m y b′ m′ f t;
+    others = others s b m y b′ m′ f t;
     stays = l .stays;
     came = record { names = named-new b′ m′ f hf fresh l t; there = valid-new b′ m′ f hf fresh l t };
     left = λ r. record {
@@ -165,7 +172,7 @@ module _ (s : Shape) (b : FrameBook) (m : Memory) (h : Fit s (length (m .main)))
       fresh = frame-free (s .frames) b
 
       l : Loads s b m y m′ f
-      l = moved s b m h w g y hy hv hf
+      l = moved s b m h w g y hy hv hf clean
 
       t : Seats (s .frames) b y b′ f
       t = seats (s .frames) (h .frames-least) (h .frames-most) b y (g .booked) hand
@@ -173,7 +180,7 @@ module _ (s : Shape) (b : FrameBook) (m : Memory) (h : Fit s (length (m .main)))
 -- ---- a whole state
 module _ (p : State) (g : Good p) (y : VirtualPage) (hy : y .0 < p .machine .shape .ptl) (hv : valid (entry (p .machine .shape) (p .memory .main) y) ≡ false) where
   one-load : PageLoaded (p .machine .shape) (p .machine .book) (p .memory) y
-  one-load = loads (p .machine .shape) (p .machine .book) (p .memory) (g .fit) (g .whole) (g .seated) (g .hand) y hy hv
+  one-load = loads (p .machine .shape) (p .machine .book) (p .memory) (g .fit) (g .whole) (g .seated) (g .hand) y hy hv (g .clean)
 
   -- "y's entry gets ppx abase+f and v 1", and the victim's "ppx 0 and v 0"
   pub load-came : Place (p .machine .shape .abase + frame (p .machine .shape .frames) (p .machine .book)) true
@@ -185,6 +192,16 @@ module _ (p : State) (g : Good p) (y : VirtualPage) (hy : y .0 < p .machine .sha
       → Place 0 false (entry (p .machine .shape) (load p y .memory .main) (pageIn (p .machine .book) (frame (p .machine .shape .frames) (p .machine .book))))
   unfolding load
   load-left = one-load .left
+
+  -- the mark is "cleared by a load", and no other
+  pub load-cleared : marked (load p y .machine .book .marks) (frame (p .machine .shape .frames) (p .machine .book)) ≡ false
+  unfolding load
+  load-cleared = one-load .cleared
+
+  pub load-others : (f : ℕ) → (f ≡ frame (p .machine .shape .frames) (p .machine .book) → ⊥)
+      → marked (load p y .machine .book .marks) f ≡ marked (p .machine .book .marks) f
+  unfolding load
+  load-others = one-load .others
 
   -- "the page loaded last is never the victim"
   pub load-remains : p .machine .shape .frames ≤ load p y .machine .book .used
@@ -200,6 +217,7 @@ module _ (p : State) (g : Good p) (y : VirtualPage) (hy : y .0 < p .machine .sha
     whole = one-load .swap-long ∙ g .whole;
     seated = one-load .seated;
     hand = one-load .hand;
+    clean = one-load .clean;
     zero = g .zero;
   }
 

@@ -2,19 +2,23 @@
 -- loads, and at most 2·finished if it ended by stop 0" (`run-loads`).
 use mathlib.Core.Path.{_≡_, sym, ap, subst, _∙_}
 use mathlib.Core.Bool.{true, true≢false}
+use mathlib.Core.List.{List}
 use Prim.Native.Nat.{ℕ, suc}
 use native.Mathlib.Omega.{arith}
 use Rattle.model.specs.Pages.{pageOf}
 use Rattle.model.specs.Table.{entry, valid}
 use Rattle.model.specs.Handler.{load}
-use Rattle.model.specs.Run.{Step, goes, stops, Counted, try, served, attempts, instruction, run}
+use Rattle.model.specs.Attempt.{tried}
+use Rattle.model.specs.Run.{Step, stops, answered, Counted, try, served, attempts, instruction, run}
 use Rattle.model.specs.Flat.{Flat, flatTry, flatPut, flatInstruction}
-use Rattle.model.specs.declared.Pcs.{Pcs}
-use Rattle.model.specs.declared.Outcome.the-variants.{Done, Missing}
+use Rattle.model.specs.declared.Outcome.{Outcome}
+use Rattle.model.specs.declared.Outcome.the-variants.{Missing}
 use Rattle.model.specs.declared.Stop.{Stop}
+use Rattle.model.specs.declared.Stop.the-variants.{IllegalMemory}
 use Rattle.laws.specs.Good.{Good}
 use Rattle.laws.specs.Mapped.{leaves, mapStep}
 use Rattle.laws.specs.Demand2.{flatOf, Fetched, Few, RunFew}
+use Rattle.laws.proofs.Agree.{Finishes, done, wrote}
 use Rattle.laws.proofs.Attempt.{clash, Misses, for-code, for-data, missed}
 use Rattle.laws.proofs.Third.{Enough, enough, miss-good, miss-flat, miss-loaded}
 use Rattle.laws.proofs.Simulate.{run-all}
@@ -31,12 +35,14 @@ few-settled k c g r t = record {
 }
 
 -- an instruction whose data page is legal does not stop
-no-stop : (f : Flat) (pcs : Pcs) → flatTry f .outcome ≡ Done pcs → (s : Stop) (n : ℕ) (d : Flat) → flatInstruction f ≡ stops s n d → ⊥
+no-stop : (f : Flat) → Finishes (flatTry f .outcome) → (s : Stop) (n : ℕ) (d : Flat) → flatInstruction f ≡ stops s n d → ⊥
 unfolding flatInstruction
-no-stop f pcs e s n d q = by (rw e at q)
+no-stop f h s n d q = by (flatTry f .outcome) (flatTry f .gpr) (flatTry f .bytes) h q
   where
-    by : goes (flatPut f pcs (flatTry f .gpr) (flatTry f .bytes)) ≡ stops s n d → ⊥
-    by r = clash (cc)
+    by : (o : Outcome) (gpr bytes : List ℕ) → Finishes o
+        → answered f (flatPut f) (λ i g. g) (λ va. stops (IllegalMemory va) 0 f) (tried o gpr bytes) ≡ stops s n d → ⊥
+    by o gpr bytes done r = clash (cc)
+    by o gpr bytes wrote r = clash (cc)
 
 module _ (k : ℕ) (c : Counted) (g : Good (c .state)) (va : ℕ) (e : try (c .state) .outcome ≡ Missing va) (h : Enough k (load (c .state) (pageOf va))) where
   -- after the load of its code page, and of its data page
@@ -46,9 +52,9 @@ module _ (k : ℕ) (c : Counted) (g : Good (c .state)) (va : ℕ) (e : try (c .s
       subst (λ (v : ℕ). valid (entry (c .state .machine .shape) (load (c .state) (pageOf va) .memory .main) (pageOf v)) ≡ true) q
       (miss-loaded (c .state) g va e .came .there)
 
-  after-data : (pcs : Pcs) → flatTry (flatOf c) .outcome ≡ Done pcs → (s : Stop) (n : ℕ) (d : Counted) → attempts k (served c (pageOf va)) ≡ stops s n d → ⊥
-  after-data pcs f s n d q =
-      no-stop (flatOf c) pcs f s n (flatOf d)
+  after-data : Finishes (flatTry (flatOf c) .outcome) → (s : Stop) (n : ℕ) (d : Counted) → attempts k (served c (pageOf va)) ≡ stops s n d → ⊥
+  after-data f s n d q =
+      no-stop (flatOf c) f s n (flatOf d)
       (sym (attempts-right k (served c (pageOf va)) (miss-good (c .state) g va e) h .same ∙ ap flatInstruction (miss-flat (c .state) g va e)) ∙ ap (mapStep flatOf) q)
 
   few-after : Few k (served c (pageOf va)) (attempts k (served c (pageOf va))) → Few (suc k) c (attempts k (served c (pageOf va)))
@@ -63,11 +69,11 @@ module _ (k : ℕ) (c : Counted) (g : Good (c .state)) (va : ℕ) (e : try (c .s
             absurd (true≢false (sym v ∙ ap (λ (x : ℕ). valid (entry (c .state .machine .shape) (c .state .memory .main) (pageOf x))) (sym q) ∙ a .away));
         unlimited = t .unlimited;
       }
-      by (for-data writing pcs q a f) = record {
+      by (for-data writing q a f) = record {
         least = omega (arith, t .least);
         most = omega (arith, t .most);
-        stopping = λ s n d r. absurd (after-data pcs f s n d r);
-        fetched = λ s n d r v. absurd (after-data pcs f s n d r);
+        stopping = λ s n d r. absurd (after-data f s n d r);
+        fetched = λ s n d r v. absurd (after-data f s n d r);
         unlimited = t .unlimited;
       }
 

@@ -62,12 +62,12 @@ stop-told x y e d = sym (stop-again x) ∙ ap₂ stopOf e d ∙ stop-again y
 
 -- ---- the answers of a run and of the reader: taken or refused, as the verdict says
 runOf : RunNumbers → Verdict → RunAnswer
-runOf n Granted = Ran (stopOf (n .stop) (n .detail)) (n .finished) (n .loads)
+runOf n Granted = Ran (stopOf (n .stop) (n .detail)) (n .finished) (n .loads) (n .copied)
 runOf n (Refused r) = NotRun r
 
 run-again : (a : RunAnswer) → runOf (runNumbers a) (verdictOf (runNumbers a .verdict .refused)) ≡ a
 unfolding verdictOf runOf
-run-again (Ran s finished loads) = ap (λ t. Ran t finished loads) (stop-again s)
+run-again (Ran s finished loads copied) = ap (λ t. Ran t finished loads copied) (stop-again s)
 run-again (NotRun r) = ap (runOf (runNumbers (NotRun r))) (verdict-again (Refused r))
 
 pub run-told : (x y : RunAnswer) → runNumbers x ≡ runNumbers y → x ≡ y

@@ -1,5 +1,5 @@
 -- What `Seated` says of a valid entry: it names a frame, and two of them name two. It goes over to a table that says the same
--- (`seated-over`).
+-- (`seated-over`), and to a book with other marks (`seated-marks`).
 use mathlib.Core.Path.{_≡_, sym, ap, _∙_}
 use mathlib.Core.Bool.{true}
 use mathlib.Core.List.{List}
@@ -7,13 +7,13 @@ use Prim.Native.Nat.{ℕ, _+_, _<_, _≤_}
 use native.Mathlib.Omega.{arith}
 use Rattle.model.specs.Pages.{virtual}
 use Rattle.model.specs.Table.{entry, ppx, valid}
-use Rattle.model.specs.Frames.{pageIn}
+use Rattle.model.specs.Frames.{pageIn, remarked}
 use Rattle.model.specs.State.{State}
 use Rattle.model.specs.declared.Shape.{Shape}
 use Rattle.model.specs.declared.FrameBook.{FrameBook}
 use Rattle.model.specs.declared.VirtualPage.{VirtualPage}
 use Rattle.model.specs.declared.MainPage.{MainPage}
-use Rattle.laws.specs.Good.{Seated, Good, Safe}
+use Rattle.laws.specs.Good.{Seated, Hand, Good, Safe}
 use Rattle.laws.specs.Entries.{SamePlace}
 
 -- two page numbers that are the same number
@@ -52,6 +52,21 @@ seated-over s b main main′ e g = record {
   frame-of = λ i q. ap (λ (p : MainPage). p .0) (e (pageIn b i) (g .in-table i q) .names) ∙ g .frame-of i q;
   only = λ x q v. g .only x q (sym (e x q .there) ∙ v);
 }
+
+-- of the marks it says nothing, nor does `Hand`
+pub seated-marks : (s : Shape) (b : FrameBook) (main : List ℕ) (marks : ℕ) → Seated s b main → Seated s (remarked b marks) main
+seated-marks s b main marks g = record {
+  booked = record { array = g .booked .array; used-most = g .booked .used-most };
+  in-table = g .in-table;
+  differ = g .differ;
+  rest = g .rest;
+  here = g .here;
+  frame-of = g .frame-of;
+  only = g .only;
+}
+
+pub hand-marks : (a : ℕ) (b : FrameBook) (marks : ℕ) → Hand a b → Hand a (remarked b marks)
+hand-marks a b marks h = record { still = h .still; most = h .most }
 
 pub safe : (p : State) → Good p → Safe (p .machine .shape) (p .memory .main)
 safe p g = record { fit = g .fit; framed = in-frames (p .machine .shape) (p .machine .book) (p .memory .main) (g .seated) }

@@ -1,7 +1,7 @@
--- The frame book after a load, apart from memory: which frame took the page, what stays, and "the page loaded last is never the victim".
+-- The frame book after a load, apart from memory: which frame took the page, what stays, the marks, and "the page loaded last is never the victim".
 -- Only this file looks at hand, and the ring of bound, by `frame-full`: what others need of the next victim is `frame-most`, `frame-used`
 -- and `seats`.
-use mathlib.Core.Path.{_≡_, sym, ap, _∙_}
+use mathlib.Core.Path.{_≡_, refl, sym, ap, _∙_}
 use Prim.Native.Nat.{ℕ, _+_, _%_, _<_, _≤_}
 use native.Mathlib.Omega.{arith}
 use native.Mathlib.Nat.{mod-lt, mod-eq-of-lt, mod-self}
@@ -10,7 +10,7 @@ use borrow.Author.Tests.{lt-ltb, le-ltb}
 use lib.ListN.{length, length-set}
 use lib.Seq.{getD-set-same, getD-set-other}
 use Rattle.model.specs.Pages.{virtual}
-use Rattle.model.specs.Frames.{pageIn, frame, seat, grown, turned, advanced}
+use Rattle.model.specs.Frames.{pageIn, withoutMark, frame, seat, grown, turned, advanced}
 use Rattle.model.specs.declared.FrameBook.{FrameBook}
 use Rattle.model.specs.declared.VirtualPage.{VirtualPage}
 use Rattle.laws.specs.Good.{Booked, Hand}
@@ -51,6 +51,7 @@ pub record Seats (a : ℕ) (b : FrameBook) (y : VirtualPage) (b′ : FrameBook) 
   pub in-use : f < b′ .used
   pub grown-by : b .used ≤ b′ .used
   pub before : (i : ℕ) → i < b′ .used → (i ≡ f → ⊥) → i < b .used
+  pub marks : b′ .marks ≡ withoutMark (b .marks) f
   pub moves : frame a b′ ≡ f → ⊥
 
 module _ (a : ℕ) (two : 2 ≤ a) (most : a ≤ 32) (b : FrameBook) (y : VirtualPage) (g : Booked a b) (h : Hand a b) where
@@ -73,6 +74,7 @@ module _ (a : ℕ) (two : 2 ≤ a) (most : a ≤ 32) (b : FrameBook) (y : Virtua
     in-use = omega (arith, frame-free a b q);
     grown-by = omega arith;
     before = λ i r n. omega (arith, r, n, frame-free a b q);
+    marks = refl;
     moves = λ e. moves (decLt (b .used + 1) a) (e ∙ frame-free a b q);
   }
     where
@@ -91,6 +93,7 @@ module _ (a : ℕ) (two : 2 ≤ a) (most : a ≤ 32) (b : FrameBook) (y : Virtua
     in-use = frame-used a b h q;
     grown-by = omega arith;
     before = λ i r n. r;
+    marks = refl;
     moves = λ e. moves (decLt (frame a b + 1) a) (sym (frame-full a (turned a (frame a b) (seat b (frame a b) y)) q) ∙ e);
   }
     where

@@ -4,13 +4,13 @@
 use mathlib.Core.Path.{_≡_, refl, sym, ap, ap₂, subst⁻¹, _∙_}
 use mathlib.Core.Bool.{Bool, true, false, _&&_}
 use mathlib.Core.List.{List}
-use Prim.Native.Nat.{ℕ, _*_, _<_, _≤_}
+use Prim.Native.Nat.{ℕ, _+_, _*_, _<_, _≤_}
 use native.Mathlib.Omega.{arith}
 use lib.Dec.{ltb}
 use lib.ListN.{length, getD}
 use borrow.Author.Tests.{ltb-true, lt-ltb}
 use Rattle.model.specs.Choice.{if_then_else_}
-use Rattle.model.specs.Pages.{virtual, pageOf, entryAt}
+use Rattle.model.specs.Pages.{virtual, pageOf, entryAt, frameAt, mainPage}
 use Rattle.model.specs.Table.{entry, kept, spare, withSpare, setSpare}
 use Rattle.model.specs.State.{State, state}
 use Rattle.model.specs.Handler.{load}
@@ -28,7 +28,7 @@ use Rattle.laws.proofs.Choice.{and-left, and-right, below-same}
 use Rattle.laws.proofs.Entries.{spare-with, with-fits, with-rest, rest-place, rest-rights}
 use Rattle.laws.proofs.Table.{entry-same, entry-other, entry-off, byte-other, byte-above, length-entry, flat-placed}
 use Rattle.laws.proofs.Seated.{in-frames, seated-over}
-use Rattle.laws.proofs.Moves.{page-discrete}
+use Rattle.laws.proofs.Moves.{page-discrete, page-same}
 use Rattle.laws.proofs.Load.{load-kept}
 use Rattle.laws.proofs.Attempt.{missing}
 use Rattle.laws.proofs.Third.{enough}
@@ -94,6 +94,11 @@ module _ (s : Shape) (main : List ℕ) (fit : Fit s (length main)) (x : VirtualP
   unfolding setSpare
   set-above j h = byte-above s main fit x (withSpare v (entry s main x)) j hx h
 
+  set-frame : (i : ℕ) → i < s .frames → mainPage changed (frameAt s i) ≡ mainPage main (frameAt s i)
+  set-frame i q =
+      let here : 4096 * (s .abase + i) + 4096 ≤ length main = omega (arith, fit .main-long, fit .frames-in) in
+      page-same changed main (s .abase + i) (s .abase + i) (omega (arith, here, length-set)) here (λ k r. set-above (4096 * (s .abase + i) + k) (omega arith))
+
   set-off : (j : ℕ) → Off (entryAt s x) 4 j → getD changed j 0 ≡ getD main j 0
   unfolding setSpare
   set-off j o = byte-other s main x (withSpare v (entry s main x)) j o
@@ -150,6 +155,10 @@ module _ (p : State) (g : Good p) (x : VirtualPage) (v : ℕ) where
         whole = g .whole;
         seated = seated-over s (p .machine .book) main (setSpare s main x v) (λ y h. set-place s main (g .fit) x v hx hv y) (g .seated);
         hand = g .hand;
+        clean = record {
+          equal = λ i q u. set-frame s main (g .fit) x v hx hv i (omega (arith, q, g .seated .booked .used-most)) ∙ g .clean .equal i q u;
+          unused = g .clean .unused;
+        };
         zero = g .zero;
       })
       g

@@ -1,17 +1,18 @@
 -- A store by an access of the paged machine is that store in the flat memory. The rights stay, and so does main memory outside the
--- frames.
+-- frames. With the mark of its frame set, what has no mark is as in swap (`clean-kept`).
 use mathlib.Core.Path.{_≡_, refl, sym, ap, ap₂, subst, _∙_}
-use mathlib.Core.Bool.{true}
+use mathlib.Core.Bool.{true, true≢false}
 use mathlib.Core.List.{List}
-use Prim.Native.Nat.{ℕ, _+_, _-_, _*_, _<_, _≤_}
+use Prim.Native.Nat.{ℕ, _+_, _-_, _*_, _/_, _<_, _≤_}
 use native.Mathlib.Omega.{arith}
 use native.Mathlib.Decide.{decLt, ℕ-discrete}
 use lib.ListN.{length, getD}
 use lib.Seq.{ext-getD}
 use Rattle.model.specs.Words.{aligned}
 use Rattle.model.specs.Bytes.{store}
-use Rattle.model.specs.Pages.{virtual, pageOf, offset, entryAt, mainAt}
+use Rattle.model.specs.Pages.{virtual, pageOf, offset, entryAt, mainAt, mainPage, mainPageOf, frameAt, frameIn}
 use Rattle.model.specs.Table.{entry, ppx, valid}
+use Rattle.model.specs.Frames.{pageIn, marked, withMark, remarked}
 use Rattle.model.specs.State.{Memory}
 use Rattle.model.specs.Translate.{translate, flatByte}
 use Rattle.model.specs.Attempt.{Width, size}
@@ -20,10 +21,11 @@ use Rattle.model.specs.declared.Shape.{Shape}
 use Rattle.model.specs.declared.FrameBook.{FrameBook}
 use Rattle.model.specs.declared.VirtualPage.{VirtualPage}
 use Rattle.model.specs.declared.Access.the-variants.{At}
-use Rattle.laws.specs.Good.{Fit, Seated, Safe}
+use Rattle.laws.specs.Good.{Fit, Seated, Clean, Safe}
 use Rattle.laws.proofs.Choice.{length-below, below-same}
 use Rattle.laws.specs.Named.{Off}
-use Rattle.laws.proofs.Bytes.{number-same, store-other, store-same, length-store}
+use Rattle.laws.proofs.Bytes.{number-same, store-other, store-same, length-store, length-page, getD-page}
+use Rattle.laws.proofs.Marks.{mark-here, mark-other, mark-most}
 use Rattle.laws.proofs.Seated.{same-page, in-frames, apart}
 use Rattle.laws.proofs.Table.{flat-here, flat-same}
 use Rattle.laws.proofs.Access.{Through, through, ends, within, bytes-at}
@@ -107,3 +109,30 @@ module _ (s : Shape) (b : FrameBook) (m : Memory) (fit : Fit s (length (m .main)
           subst (λ (z : ℕ). flatByte s (stored m width i v) z ≡ getD (store (size width) (flatBytes s m) va v) z 0) (omega (arith, n)) (there (j - va) (omega (arith, n)))
       pick j l (yes r) d = elsewhere j l (λ z. omega (arith, z))
       pick j l (no n) (no r) = elsewhere j l (λ z. omega (arith, r))
+
+  -- ---- the frame that is stored to
+  abbrev f₀ : ℕ
+  f₀ = frameIn s (mainPageOf i)
+
+  in-use : (k : ℕ) × (k < b .used) × (i / 4096 ≡ s .abase + k)
+  in-use =
+      let r : (k : ℕ) × (k < b .used) × (pageIn b k ≡ pageOf va) = g .only (pageOf va) (t .inside) (t .here) in
+      let e : ppx (entry s (m .main) (pageOf va)) .0 ≡ s .abase + r .0 = ap (λ x. ppx (entry s (m .main) x) .0) (sym (r .2)) ∙ g .frame-of (r .0) (r .1) in
+      (r .0, r .1, omega (arith, e, t .at))
+
+  -- the pages in the others stay
+  other-frame : (j : ℕ) → j < b .used → (j ≡ f₀ → ⊥) → mainPage (store (size width) (m .main) i v) (frameAt s j) ≡ mainPage (m .main) (frameAt s j)
+  other-frame j h n =
+      ext-getD 0 _ _ (long (store (size width) (m .main) i v) (length-store (size width) (m .main) i v) ∙ sym (long (m .main) refl))
+      (λ k q. let l : k < 4096 = omega (arith, q, long (store (size width) (m .main) i v) (length-store (size width) (m .main) i v)) in
+      getD-page _ _ k l ∙ store-other (size width) (m .main) i v _ 0 (λ z. omega (arith, z, n, l, in-use .2, t .at, ends width va a)) ∙ sym (getD-page _ _ k l))
+    where
+      long : (l : List ℕ) → length l ≡ length (m .main) → length (mainPage l (frameAt s j)) ≡ 4096
+      long l e = length-page l (s .abase + j) (omega (arith, e, h, g .booked .used-most, fit .main-long, fit .frames-in))
+
+  pub clean-kept : Clean s b m → Clean s (remarked b (withMark (b .marks) f₀)) (stored m width i v)
+  clean-kept c = record {
+    equal = λ j h e. let n : j ≡ f₀ → ⊥ = λ z. true≢false (sym (mark-here (b .marks) f₀) ∙ ap (marked (withMark (b .marks) f₀)) (sym z) ∙ e) in
+        other-frame j h n ∙ c .equal j h (sym (mark-other (b .marks) f₀ j n) ∙ e);
+    unused = mark-most (b .used) (b .marks) f₀ (c .unused) (omega (arith, in-use .1, in-use .2));
+  }

@@ -30,7 +30,7 @@ module _ (p : State) (g : Good p) (va : ℕ) (e : try p .outcome ≡ Missing va)
 
   pub miss-loaded : PageLoaded (p .machine .shape) (p .machine .book) (p .memory) (pageOf va)
   miss-loaded =
-      loads (p .machine .shape) (p .machine .book) (p .memory) (g .fit) (g .whole) (g .seated) (g .hand) (pageOf va) (missing p va e .0) (missing p va e .1)
+      loads (p .machine .shape) (p .machine .book) (p .memory) (g .fit) (g .whole) (g .seated) (g .hand) (pageOf va) (missing p va e .0) (missing p va e .1) (g .clean)
 
 -- ---- the two addresses that an instruction asks for, by its flat machine
 data Asks (f : Flat) (va : ℕ) : Type 0 where
@@ -43,7 +43,7 @@ asks p va e = by (missed p va e)
   where
     by : Misses p va → Asks (flat p) va
     by (for-code q a) = code q
-    by (for-data writing pcs q a d) = datum q
+    by (for-data writing q a d) = datum q
 
 -- of three that are asked for two are the same
 same-two : (f : Flat) (u v w : ℕ) → Asks f u → Asks f v → Asks f w

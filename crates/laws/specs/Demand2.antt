@@ -1,15 +1,17 @@
 -- Demand 2 as statements: what an instruction and a run of the paged machine come to is what its flat machine comes to (`Right`,
--- `RunRight`); how many pages they load (`Few`, `RunFew`); and what a host write and a reply leave (`flatWrite`, `withRegister`).
+-- `RunRight`); how many pages they load (`Few`, `RunFew`); and what a host write and a reply leave (`flatWrite`, `withMarks`, `withRegister`).
 use mathlib.Core.Path.{_≡_}
 use mathlib.Core.Bool.{true}
 use mathlib.Core.List.{List, _++_}
-use Prim.Native.Nat.{ℕ, _+_, _*_, _≤_}
+use Prim.Native.Nat.{ℕ, _+_, _*_, _<_, _≤_}
 use lib.ListN.{length, take, drop, set}
 use Rattle.model.specs.Pages.{pageOf}
 use Rattle.model.specs.Table.{entry, valid}
+use Rattle.model.specs.Frames.{remarked}
 use Rattle.model.specs.State.{State}
 use Rattle.model.specs.Run.{Step, stops, Course, Counted, run, instruction}
 use Rattle.model.specs.Flat.{Flat, flat, flatInstruction}
+use Rattle.model.specs.declared.VirtualPage.{VirtualPage}
 use Rattle.model.specs.declared.Machine.{Machine}
 use Rattle.model.specs.declared.Stop.{Stop}
 use Rattle.model.specs.declared.Stop.the-variants.{Limit}
@@ -58,6 +60,14 @@ flatWrite f va bytes = record {
   bytes = take va (f .bytes) ++ bytes ++ drop (va + length bytes) (f .bytes);
   rights = f .rights;
 }
+
+-- the record with these marks
+abbrev pub withMarks : Machine → ℕ → Machine
+withMarks m marks = record { shape = m .shape; book = remarked (m .book) marks; gpr = m .gpr; pcs = m .pcs }
+
+-- page x gets one of the n bytes from va on
+abbrev pub Gets : ℕ → ℕ → VirtualPage → Type 0
+Gets va n x = (i : ℕ) × (i < n) × (pageOf (va + i) ≡ x)
 
 -- the record with one register set
 abbrev pub withRegister : Machine → ℕ → ℕ → Machine

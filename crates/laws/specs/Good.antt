@@ -1,14 +1,15 @@
 -- A machine that the checks accept, as named facts: the shape fits main memory (`Fit`) and swap, book and table say the same
--- (`Seated`), the victim is one of the frames (`Hand`), GPR 0 is 0. Every theorem about the paged machine speaks of `Good`.
+-- (`Seated`), the victim is one of the frames (`Hand`), what has no mark is as in swap (`Clean`), GPR 0 is 0. Every theorem about the
+-- paged machine speaks of `Good`.
 use mathlib.Core.Path.{_≡_}
-use mathlib.Core.Bool.{true}
+use mathlib.Core.Bool.{true, false}
 use mathlib.Core.List.{List}
-use Prim.Native.Nat.{ℕ, _+_, _*_, _%_, _<_, _≤_}
+use Prim.Native.Nat.{ℕ, _+_, _*_, _%_, _^_, _<_, _≤_}
 use lib.ListN.{length, getD}
-use Rattle.model.specs.Pages.{virtual, pageOf}
+use Rattle.model.specs.Pages.{virtual, pageOf, frameAt, swapOf, mainPage, swapPage}
 use Rattle.model.specs.Table.{entry, ppx, valid}
-use Rattle.model.specs.Frames.{pageIn}
-use Rattle.model.specs.State.{State}
+use Rattle.model.specs.Frames.{pageIn, marked}
+use Rattle.model.specs.State.{Memory, State}
 use Rattle.model.specs.declared.Shape.{Shape}
 use Rattle.model.specs.declared.FrameBook.{FrameBook}
 use Rattle.model.specs.declared.VirtualPage.{VirtualPage}
@@ -52,11 +53,18 @@ pub record Seated (s : Shape) (b : FrameBook) (main : List ℕ) : Type 0 where
   pub frame-of : (i : ℕ) → i < b .used → ppx (entry s main (pageIn b i)) .0 ≡ s .abase + i
   pub only : (x : VirtualPage) → x .0 < s .ptl → valid (entry s main x) ≡ true → (i : ℕ) × (i < b .used) × (pageIn b i ≡ x)
 
+-- "an unmarked resident page equals its swap page", "marks of unused frames are clear"
+pub record Clean (s : Shape) (b : FrameBook) (m : Memory) : Type 0 where
+  pub equal : (i : ℕ) → i < b .used → marked (b .marks) i ≡ false
+      → mainPage (m .main) (frameAt s i) ≡ swapPage (m .swap) (swapOf s (pageIn b i))
+  pub unused : b .marks < 2 ^ b .used
+
 pub record Good (p : State) : Type 0 where
   pub fit : Fit (p .machine .shape) (length (p .memory .main))
   pub whole : SwapLong (p .machine .shape) (length (p .memory .swap))
   pub seated : Seated (p .machine .shape) (p .machine .book) (p .memory .main)
   pub hand : Hand (p .machine .shape .frames) (p .machine .book)
+  pub clean : Clean (p .machine .shape) (p .machine .book) (p .memory)
   pub zero : getD (p .machine .gpr) 0 0 ≡ 0
 
 -- what of it an attempt's accesses need: the table lies in main memory, and a valid entry names a frame

@@ -49,19 +49,26 @@ abbrev pub verdictNumbers : Verdict → VerdictNumbers
 verdictNumbers Granted = record { refused = 0 }
 verdictNumbers (Refused r) = record { refused = refusalNumber r }
 
--- "Run returns the stop, a detail, instructions finished, pages loaded."
+-- "Run returns the stop, a detail, instructions finished, pages loaded."; "A run also reports pages copied back"
 pub record RunNumbers : Type 0 where
   pub verdict : VerdictNumbers
   pub stop : ℕ
   pub detail : ℕ
   pub finished : ℕ
   pub loads : ℕ
+  pub copied : ℕ
 
 -- "A refusal returns its number, zero for every other number"
 abbrev pub runNumbers : RunAnswer → RunNumbers
-runNumbers (Ran s finished loads) =
-    record { verdict = verdictNumbers Granted; stop = stopNumber s; detail = stopDetail s; finished = finished; loads = loads }
-runNumbers (NotRun r) = record { verdict = verdictNumbers (Refused r); stop = 0; detail = 0; finished = 0; loads = 0 }
+runNumbers (Ran s finished loads copied) = record {
+  verdict = verdictNumbers Granted;
+  stop = stopNumber s;
+  detail = stopDetail s;
+  finished = finished;
+  loads = loads;
+  copied = copied;
+}
+runNumbers (NotRun r) = record { verdict = verdictNumbers (Refused r); stop = 0; detail = 0; finished = 0; loads = 0; copied = 0 }
 
 -- "with them come ptl, start and frames as written"
 pub record ImageNumbers : Type 0 where

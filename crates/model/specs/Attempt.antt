@@ -1,5 +1,6 @@
 -- Section "One attempt", on any memory that says of an access to a virtual address whether it is illegal, faults, or where in a
--- list of bytes it goes. The paged machine and the flat machine are both this, each with its own access.
+-- list of bytes it goes. The paged machine and the flat machine are both this, each with its own access. A store that is carried out
+-- says where.
 use mathlib.Core.Bool.{Bool, true, false}
 use mathlib.Core.List.{List}
 use Prim.Native.Nat.{ℕ, _*_}
@@ -15,7 +16,7 @@ use Rattle.model.specs.declared.Plan.the-variants.{Unknown, Set, LoadByt
 use Rattle.model.specs.declared.Stop.{Stop}
 use Rattle.model.specs.declared.Stop.the-variants.{IllegalMemory, Misaligned, IllegalInstruction}
 use Rattle.model.specs.declared.Outcome.{Outcome}
-use Rattle.model.specs.declared.Outcome.the-variants.{Done, Trapped, Missing, Stopped}
+use Rattle.model.specs.declared.Outcome.the-variants.{Done, Wrote, Trapped, Missing, Stopped}
 
 -- what an attempt comes to, with the registers and the bytes afterwards
 pub record Tried : Type 0 where
@@ -70,7 +71,7 @@ module _ (access : Bool → ℕ → Access) (gpr bytes : List ℕ) (pcs : Pcs) w
   obeyLoad width signed rd va = transfer false width va λ i. tried (Done pcsOnward) (written gpr rd (valueAt width signed i)) bytes
 
   unfoldable pub obeyStore : Width → ℕ → ℕ → Tried
-  obeyStore width va v = transfer true width va λ i. tried (Done pcsOnward) gpr (store (size width) bytes i v)
+  obeyStore width va v = transfer true width va λ i. tried (Wrote pcsOnward i) gpr (store (size width) bytes i v)
 
   -- the word w, which asks for a plan
   unfoldable pub obey : ℕ → Plan → Tried

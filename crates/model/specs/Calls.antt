@@ -2,12 +2,13 @@
 -- record it hands back, and every lent byte afterwards.
 use mathlib.Core.Bool.{Bool, true, false, _&&_}
 use mathlib.Core.List.{List, [], _∷_}
-use Prim.Native.Nat.{ℕ, suc, _+_}
+use Prim.Native.Nat.{ℕ, zero, suc, _+_}
 use lib.Dec.{leb, ltb}
 use lib.ListN.{length, set}
 use Rattle.model.specs.Choice.{if_then_else_, everyBelow, listBelow}
-use Rattle.model.specs.Pages.{pageOf, offset, mainAt, swapOf, swapAt, mainPage, swapPage}
+use Rattle.model.specs.Pages.{pageOf, offset, mainAt, frameIn, swapOf, swapAt, mainPage, swapPage}
 use Rattle.model.specs.Table.{entry, ppx, valid}
+use Rattle.model.specs.Frames.{withMark, remarked}
 use Rattle.model.specs.State.{Memory, State}
 use Rattle.model.specs.Sound.{fits, sound}
 use Rattle.model.specs.Translate.{has, translate, legal, flatByte}
@@ -31,7 +32,7 @@ unless false r after = Refused r
 
 unfoldable pub machineVerdict : State → Verdict → Verdict
 machineVerdict p after =
-    unless (fits (p .machine .shape) (p .memory)) Bound (unless (sound (p .machine) (p .memory .main)) Unsound after)
+    unless (fits (p .machine .shape) (p .memory)) Bound (unless (sound (p .machine) (p .memory)) Unsound after)
 
 -- ---- run: "A run: 0 to 1,000,000 instructions."
 unfoldable pub runVerdict : State → ℕ → Verdict
@@ -46,7 +47,7 @@ runOutcome a p = record { numbers = runNumbers a; state = p }
 
 -- what a run of the paged machine reports
 abbrev pub reported : Course Counted → RunOutcome
-reported c = runOutcome (Ran (c .stop) (c .finished) (c .left .loads)) (c .left .state)
+reported c = runOutcome (Ran (c .stop) (c .finished) (c .left .loads) (c .left .copied)) (c .left .state)
 
 abbrev pub runBy : Verdict → State → ℕ → RunOutcome
 runBy Granted p n = reported (run instruction n (uncounted p))
@@ -93,6 +94,25 @@ unfoldable pub bytesTo : Shape → Memory → ℕ → List ℕ → Memory
 bytesTo s m va [] = m
 bytesTo s m va (x ∷ xs) = bytesTo s (poke s m va x) (suc va) xs
 
+-- "a mark per frame, set by .. a host write of at least one byte": the marks after one byte at va, which may be in a frame; and after n
+-- from va on
+unfoldable pub markFor : Shape → List ℕ → ℕ → ℕ → ℕ
+markFor s main va marks =
+    if valid (entry s main (pageOf va)) then withMark marks (frameIn s (ppx (entry s main (pageOf va)))) else marks
+
+unfoldable pub marksFor : Shape → List ℕ → ℕ → ℕ → ℕ → ℕ
+marksFor s main va zero marks = marks
+marksFor s main va (suc n) marks = marksFor s main (suc va) n (markFor s main va marks)
+
+-- the record after n bytes were written from va on
+abbrev pub afterWrite : State → ℕ → ℕ → Machine
+afterWrite p va n = record {
+  shape = p .machine .shape;
+  book = remarked (p .machine .book) (marksFor (p .machine .shape) (p .memory .main) va n (p .machine .book .marks));
+  gpr = p .machine .gpr;
+  pcs = p .machine .pcs;
+}
+
 pub record StateOutcome : Type 0 where
   pub verdict : VerdictNumbers
   pub state : State
@@ -100,7 +120,7 @@ pub record StateOutcome : Type 0 where
 abbrev pub writeBy : Verdict → State → ℕ → List ℕ → StateOutcome
 writeBy Granted p va bytes = record {
   verdict = verdictNumbers Granted;
-  state = record { machine = p .machine; memory = bytesTo (p .machine .shape) (p .memory) va bytes };
+  state = record { machine = afterWrite p va (length bytes); memory = bytesTo (p .machine .shape) (p .memory) va bytes };
 }
 writeBy (Refused r) p va bytes = record { verdict = verdictNumbers (Refused r); state = p }
 

@@ -43,7 +43,7 @@ abbrev pub flatPut : Flat → Pcs → List ℕ → List ℕ → Flat
 flatPut f pcs gpr bytes = record { gpr = gpr; pcs = pcs; bytes = bytes; rights = f .rights }
 
 unfoldable pub flatInstruction : Flat → Step Flat
-flatInstruction f = answered f (flatPut f) (λ va. stops (stop.IllegalMemory va) 0 f) (flatTry f)
+flatInstruction f = answered f (flatPut f) (λ i g. g) (λ va. stops (stop.IllegalMemory va) 0 f) (flatTry f)
 
 -- ---- the flat machine that a paged machine stands for
 -- r and w of an entry, as a rights byte

@@ -1,7 +1,7 @@
 -- Section "Numbers that bound it": three page numbers occur, virtual, main and swap. The rules below are the only ways from one
 -- to another and from a page to its bytes.
 use mathlib.Core.List.{List}
-use Prim.Native.Nat.{ℕ, _+_, _*_, _/_, _%_}
+use Prim.Native.Nat.{ℕ, _+_, _-_, _*_, _/_, _%_}
 use Rattle.model.specs.Bytes.{page, withPage}
 use Rattle.model.specs.declared.Shape.{Shape}
 use Rattle.model.specs.declared.VirtualPage.{VirtualPage}
@@ -26,6 +26,13 @@ firstVa x = 4096 * x .0
 -- "Frames a .. at main pages abase to abase+a−1"
 abbrev pub frameAt : Shape → ℕ → MainPage
 frameAt s f = record { 0 = s .abase + f }
+
+-- the main page of a place in main memory, and the frame there
+abbrev pub mainPageOf : ℕ → MainPage
+mainPageOf i = record { 0 = i / 4096 }
+
+abbrev pub frameIn : Shape → MainPage → ℕ
+frameIn s p = p .0 - s .abase
 
 -- "sbase counts pages: swap address = sbase·4096 + va"
 abbrev pub swapOf : Shape → VirtualPage → SwapPage

@@ -1,12 +1,15 @@
 -- Sections "One attempt" and "Calls and their refusals": an instruction, and a run of at most n of them. `run` serves every machine
 -- that has an instruction: the paged one here, the flat one in Flat. What an attempt comes to decides what follows it:
 --     done       the instruction is finished, and the next one follows
+--     wrote      the same, and what was stored to is noted
 --     trapped    the instruction is finished, and the run stops (1)
 --     missing    the page is loaded, and the attempt begins anew
 --     stopped    nothing has changed, and the run stops (2, 3, 4)
 use mathlib.Core.List.{List}
 use Prim.Native.Nat.{ℕ, zero, suc, _+_}
-use Rattle.model.specs.Pages.{pageOf}
+use Rattle.model.specs.Words.{bit}
+use Rattle.model.specs.Pages.{pageOf, mainPageOf, frameIn}
+use Rattle.model.specs.Frames.{withMark, remarked, copies}
 use Rattle.model.specs.Translate.{translate}
 use Rattle.model.specs.Attempt.{Tried, attempt}
 use Rattle.model.specs.State.{State}
@@ -15,7 +18,7 @@ use Rattle.model.specs.declared.Pcs.{Pcs}
 use Rattle.model.specs.declared.VirtualPage.{VirtualPage}
 use Rattle.model.specs.declared.Stop.{Stop}
 use Rattle.model.specs.declared.Stop.the-variants as stop
-use Rattle.model.specs.declared.Outcome.the-variants.{Done, Trapped, Missing, Stopped}
+use Rattle.model.specs.declared.Outcome.the-variants.{Done, Wrote, Trapped, Missing, Stopped}
 
 -- ---- any machine M
 -- What an instruction comes to: the machine goes on, or it stops, with 1 finished (a trap) or 0.
@@ -30,10 +33,12 @@ pub record Course (M : Type 0) : Type 0 where
   pub left : M
 
 module _ {M : Type 0} where
-  -- What an attempt t of machine m comes to: `put` is the machine with other PCs, registers and bytes, `again` what follows a fault.
-  abbrev pub answered : M → (Pcs → List ℕ → List ℕ → M) → (ℕ → Step M) → Tried → Step M
-  answered m put again t = elim (t .outcome) as (λ o. Step M) [
+  -- What an attempt t of machine m comes to: `put` is the machine with other PCs, registers and bytes, `noted` one after a store at a
+  -- place, `again` what follows a fault.
+  abbrev pub answered : M → (Pcs → List ℕ → List ℕ → M) → (ℕ → M → M) → (ℕ → Step M) → Tried → Step M
+  answered m put noted again t = elim (t .outcome) as (λ o. Step M) [
     | Done pcs ↦ goes (put pcs (t .gpr) (t .bytes))
+    | Wrote pcs i ↦ goes (noted i (put pcs (t .gpr) (t .bytes)))
     | Trapped pcs n ↦ stops (stop.Trap n) 1 (put pcs (t .gpr) (t .bytes))
     | Missing va ↦ again va
     | Stopped s ↦ stops s 0 m
@@ -56,13 +61,14 @@ module _ {M : Type 0} (instruction : M → Step M) where
   run zero m = ended stop.Limit 0 m
   run (suc n) m = follow (instruction m) (λ next. run n next)
 
--- ---- the paged machine, with the pages loaded so far
+-- ---- the paged machine, with the pages loaded so far, and the pages copied back to swap
 pub record Counted : Type 0 where
   pub state : State
   pub loads : ℕ
+  pub copied : ℕ
 
 abbrev pub uncounted : State → Counted
-uncounted p = record { state = p; loads = 0 }
+uncounted p = record { state = p; loads = 0; copied = 0 }
 
 -- one attempt
 abbrev pub try : State → Tried
@@ -75,17 +81,36 @@ carried p pcs gpr main = record {
 }
 
 abbrev pub put : Counted → Pcs → List ℕ → List ℕ → Counted
-put c pcs gpr main = record { state = carried (c .state) pcs gpr main; loads = c .loads }
+put c pcs gpr main = record { state = carried (c .state) pcs gpr main; loads = c .loads; copied = c .copied }
 
--- one step of the handler is one page loaded
+-- "a mark per frame, set by a guest store": that of the frame where place i is
+abbrev pub markedAt : State → ℕ → State
+markedAt p i = record {
+  machine = record {
+    shape = p .machine .shape;
+    book = remarked (p .machine .book) (withMark (p .machine .book .marks) (frameIn (p .machine .shape) (mainPageOf i)));
+    gpr = p .machine .gpr;
+    pcs = p .machine .pcs;
+  };
+  memory = p .memory;
+}
+
+abbrev pub note : ℕ → Counted → Counted
+note i c = record { state = markedAt (c .state) i; loads = c .loads; copied = c .copied }
+
+-- one step of the handler is one page loaded, and one copied back where its victim was marked
 abbrev pub served : Counted → VirtualPage → Counted
-served c y = record { state = load (c .state) y; loads = suc (c .loads) }
+served c y = record {
+  state = load (c .state) y;
+  loads = suc (c .loads);
+  copied = c .copied + bit (copies (c .state .machine .shape .frames) (c .state .machine .book));
+}
 
 -- An instruction with at most k page loads: "load the page, begin the attempt anew". In a sound machine two are enough, by the law
 -- `third`; where a third were needed the definition gives stop 2.
 unfoldable pub attempts : ℕ → Counted → Step Counted
-attempts zero c = answered c (put c) (λ va. stops (stop.IllegalMemory va) 0 c) (try (c .state))
-attempts (suc k) c = answered c (put c) (λ va. attempts k (served c (pageOf va))) (try (c .state))
+attempts zero c = answered c (put c) note (λ va. stops (stop.IllegalMemory va) 0 c) (try (c .state))
+attempts (suc k) c = answered c (put c) note (λ va. attempts k (served c (pageOf va))) (try (c .state))
 
 unfoldable pub instruction : Counted → Step Counted
 instruction c = attempts 2 c

@@ -1,14 +1,15 @@
 -- Sections "Numbers that bound it" and "Table and frame book": when a shape fits its memories, and when a machine is sound.
 use mathlib.Core.Bool.{Bool, _&&_, _||_, not}
 use mathlib.Core.List.{List, [], _∷_}
-use Prim.Native.Nat.{ℕ, _+_, _*_}
+use Prim.Native.Nat.{ℕ, _+_, _*_, _^_}
 use lib.Dec.{eqb, leb, ltb}
 use lib.ListN.{length, getD}
 use Rattle.model.specs.Choice.{if_then_else_, passes, everyBelow}
 use Rattle.model.specs.Words.{aligned}
-use Rattle.model.specs.Pages.{virtual, frameAt}
+use Rattle.model.specs.Bytes.{same}
+use Rattle.model.specs.Pages.{virtual, frameAt, swapOf, mainPage, swapPage}
 use Rattle.model.specs.Table.{entry, ppx, valid}
-use Rattle.model.specs.Frames.{pageIn, free, resident}
+use Rattle.model.specs.Frames.{pageIn, marked, free, resident}
 use Rattle.model.specs.State.{Memory}
 use Rattle.model.specs.declared.Shape.{Shape}
 use Rattle.model.specs.declared.FrameBook.{FrameBook}
@@ -69,17 +70,31 @@ tableOnly s b main = everyBelow (s .ptl) (λ x. entryRight s b main (virtual x))
 abbrev pub handRight : ℕ → FrameBook → Bool
 handRight a b = if free a b then eqb (b .hand) 0 else ltb (b .hand) a
 
--- what soundness says of the book and the table
-abbrev pub bookTests : Shape → FrameBook → List ℕ → List Bool
-bookTests s b main =
+-- ---- document 02's request 3
+-- "marks of unused frames are clear"
+abbrev pub marksRight : FrameBook → Bool
+marksRight b = ltb (b .marks) (2 ^ b .used)
+
+-- "an unmarked resident page equals its swap page"
+abbrev pub clean : Shape → FrameBook → Memory → ℕ → Bool
+clean s b m i = marked (b .marks) i || same (mainPage (m .main) (frameAt s i)) (swapPage (m .swap) (swapOf s (pageIn b i)))
+
+abbrev pub framesClean : Shape → FrameBook → Memory → Bool
+framesClean s b m = everyBelow (b .used) (λ i. clean s b m i)
+
+-- what soundness says of the book, the table and the pages
+abbrev pub bookTests : Shape → FrameBook → Memory → List Bool
+bookTests s b m =
     leb (b .used) (s .frames)
     ∷ heldInTable (s .ptl) b
     ∷ allDifferent b
     ∷ restZero b
-    ∷ framesSeated s b main
-    ∷ tableOnly s b main
+    ∷ framesSeated s b (m .main)
+    ∷ tableOnly s b (m .main)
     ∷ handRight (s .frames) b
+    ∷ marksRight b
+    ∷ framesClean s b m
     ∷ []
 
-unfoldable pub sound : Machine → List ℕ → Bool
-sound m main = passes (eqb (getD (m .gpr) 0 0) 0 ∷ bookTests (m .shape) (m .book) main)
+unfoldable pub sound : Machine → Memory → Bool
+sound r m = passes (eqb (getD (r .gpr) 0 0) 0 ∷ bookTests (r .shape) (r .book) m)

@@ -17,11 +17,12 @@ pub struct Shape {
     pub sbase: u32,
 }
 
-// The frame book: b, hand and B[0..31].
+// The frame book: b, hand, B[0..31], and the marks, bit i for frame i.
 pub struct FrameBook {
     pub used: u32,
     pub hand: u32,
     pub held: [VirtualPage; 32],
+    pub marks: u32,
 }
 
 // DPC and PC'.
@@ -67,9 +68,11 @@ pub enum Stop {
     IllegalInstruction(u32),
 }
 
-// What one attempt comes to: carried out, a trap carried out, a page missing at a virtual address, or a stop.
+// What one attempt comes to: carried out, a store carried out at a place in memory, a trap carried out, a page missing at a virtual
+// address, or a stop.
 pub enum Outcome {
     Done(Pcs),
+    Wrote(Pcs, usize),
     Trapped(Pcs, u32),
     Missing(u32),
     Stopped(Stop),
@@ -101,6 +104,7 @@ pub enum RunAnswer {
         stop: Stop,
         finished: u32,
         loads: u32,
+        copied: u32,
     },
     NotRun(Refusal),
 }

@@ -1,13 +1,14 @@
 -- The worked values that document 01 marks with *, as one table and one statement about the definitions, with pages of 4096 bytes
--- and the real run; with them its small image, and a machine whose shape a host chose. The checker computes it.
-use mathlib.Core.Bool.{Bool, true, false, _&&_}
+-- and the real run; with them its small image, a machine whose shape a host chose, and the marks of document 02's request 3. The checker
+-- computes it.
+use mathlib.Core.Bool.{Bool, true, false, not, _&&_}
 use mathlib.Core.List.{List, [], _∷_, _++_}
 use Prim.Native.Nat.{ℕ, _+_, _-_, _*_, _%_, _^_}
 use lib.Dec.{T, eqb}
 use lib.ListN.{replicate}
 use Rattle.model.specs.Choice.{passes, everyBelow, listBelow}
 use Rattle.model.specs.Words.{minus, compared}
-use Rattle.model.specs.Bytes.{number, store, page, withPage}
+use Rattle.model.specs.Bytes.{number, store, page, withPage, same}
 use Rattle.model.specs.Pages.{virtual}
 use Rattle.model.specs.Table.{entry, withEntry, setSpare}
 use Rattle.model.specs.Frames.{advanced, among, resident, emptyBook, pageIn}
@@ -19,6 +20,7 @@ use Rattle.model.specs.Attempt.{transfer, obeyLoad, obeyStore, obey, attempt}
 use Rattle.model.specs.Handler.{out, into, loaded, load}
 use Rattle.model.specs.Run.{follow, run, attempts, instruction}
 use Rattle.model.specs.Calls.{machineVerdict, runVerdict, RunOutcome, runCall}
+use Rattle.model.specs.Calls.{permitted, hostVerdict, poke, bytesTo, markFor, marksFor, StateOutcome, writeCall}
 use Rattle.model.specs.Series.{spared}
 use Rattle.model.specs.Image.{trailer, rightsOf, pagesOf, known, wellFormed, imageVerdict, room, loadVerdict, invalidEntries, fresh, loadCall}
 use Rattle.model.specs.Console.{digits, consoleVerdict, consoleText}
@@ -77,13 +79,29 @@ accessed Illegal = 0 ∷ []
 accessed Fault = 1 ∷ []
 accessed (At i) = 2 ∷ i ∷ []
 
--- refusal, stop, detail, finished, loads
+-- refusal, stop, detail, finished, loads, copied
 abbrev counted : RunOutcome → List ℕ
-counted r = r .numbers .verdict .refused ∷ r .numbers .stop ∷ r .numbers .detail ∷ r .numbers .finished ∷ r .numbers .loads ∷ []
+counted r =
+    r .numbers .verdict .refused
+    ∷ r .numbers .stop
+    ∷ r .numbers .detail
+    ∷ r .numbers .finished
+    ∷ r .numbers .loads
+    ∷ r .numbers .copied
+    ∷ []
 
--- B[0], B[1], hand
+-- B[0], B[1], hand, marks
 abbrev booked : RunOutcome → List ℕ
-booked r = pageIn (r .state .machine .book) 0 .0 ∷ pageIn (r .state .machine .book) 1 .0 ∷ r .state .machine .book .hand ∷ []
+booked r =
+    pageIn (r .state .machine .book) 0 .0
+    ∷ pageIn (r .state .machine .book) 1 .0
+    ∷ r .state .machine .book .hand
+    ∷ r .state .machine .book .marks
+    ∷ []
+
+-- refusal, marks
+abbrev noted : StateOutcome → List ℕ
+noted r = r .verdict .refused ∷ r .state .machine .book .marks ∷ []
 
 -- DPC, PC' and the registers
 abbrev registered : RunOutcome → List ℕ
@@ -121,7 +139,8 @@ fetches a = machine (shapeOf a 6) 4 (registers 0 0) 4096 8192 (pages (
     ∷ []))
 
 -- A shape that a host chose: sbase 3, pto 8, abase 2. sw 1,4096(0) and sw 1,8192(0), with 7 in GPR 1: the load of page 2 puts page 0
--- out, and the code page that comes again puts page 1 out with the word stored there.
+-- out, which was only read and is not copied, and the code page that comes again puts page 1 out, which is copied with the word stored
+-- there.
 abbrev two-stores : State
 two-stores = machine (record { pages = 4; frames = 2; abase = 2; ptl = 3; pto = 8; sbase = 3 }) 6 (registers 7 0) 0 4
     (pages ((0xAC011000 ∷ 0xAC012000 ∷ []) ∷ [] ∷ [] ∷ []))
@@ -136,6 +155,22 @@ with-forms =
 abbrev moved : RunOutcome → List ℕ
 moved r =
     counted r ++ booked r ++ wordsAt (r .state .memory .main) (8 ∷ 12 ∷ 16 ∷ 8192 ∷ []) ++ wordsAt (r .state .memory .swap) (16384 ∷ [])
+
+-- Two frames and two pages that grant reading and writing, with these marks: page 0 is in frame 0, and in swap but for its first byte,
+-- which is x here and 0 there; page 1 is in swap alone.
+abbrev one-resident : ℕ → ℕ → State
+one-resident marks x = record {
+  machine = record {
+    shape = shapeOf 2 2;
+    book = record { used = 1; hand = 0; held = replicate 32 (virtual 0); marks = marks };
+    gpr = zeros 32;
+    pcs = record { dpc = 0; next = 4 };
+  };
+  memory = memory (pages (((4096 + 7) ∷ 6 ∷ []) ∷ (x ∷ []) ∷ [] ∷ [])) (zeros 8192);
+}
+
+abbrev right : State → Bool
+right p = sound (p .machine) (p .memory)
 
 -- "Image of one page, rights 3, start 0, frames 0, the three words above at 0, 4, 8."
 abbrev image : List ℕ
@@ -172,17 +207,27 @@ pub worked : T (every (
     ∷ (planned (plan (registers (2 ^ 31) 1) 4 0x00201829) is 1 ∷ 3 ∷ 0 ∷ 8 ∷ [])
     ∷ (planned (plan (registers 0x80000000 1) 4 0x00201FC3) is 1 ∷ 3 ∷ 0xFFFFFFFF ∷ 8 ∷ [])
     ∷ (planned (plan (registers 0xFFFFFFFC 1) 4 0x8C220008) is 2 ∷ 4 ∷ 2 ∷ 4 ∷ [])
-    -- a = 2, limit 2: finished 2, loads 4, B = 2, 0, hand 0
-    ∷ (counted (runCall two-loads 2) is 0 ∷ 0 ∷ 0 ∷ 2 ∷ 4 ∷ [])
-    ∷ (booked (runCall two-loads 2) is 2 ∷ 0 ∷ 0 ∷ [])
+    -- a = 2, limit 2: finished 2, loads 4, B = 2, 0, hand 0; nothing was stored, so nothing is copied or marked
+    ∷ (counted (runCall two-loads 2) is 0 ∷ 0 ∷ 0 ∷ 2 ∷ 4 ∷ 0 ∷ [])
+    ∷ (booked (runCall two-loads 2) is 2 ∷ 0 ∷ 0 ∷ 0 ∷ [])
     -- fetches alone: 9 loads with 3 frames, 10 with 4
-    ∷ (counted (runCall (fetches 3) 12) is 0 ∷ 0 ∷ 0 ∷ 12 ∷ 9 ∷ [])
-    ∷ (counted (runCall (fetches 4) 12) is 0 ∷ 0 ∷ 0 ∷ 12 ∷ 10 ∷ [])
-    -- the host's shape: page 0 in main page 3, page 2 in main page 2, page 1 in swap page 3 + 1
-    ∷ (moved (runCall two-stores 2) is 0 ∷ 0 ∷ 0 ∷ 2 ∷ 4 ∷ 2 ∷ 0 ∷ 0 ∷ (4096 * 3 + 7) ∷ 6 ∷ (4096 * 2 + 7) ∷ 7 ∷ 7 ∷ [])
+    ∷ (counted (runCall (fetches 3) 12) is 0 ∷ 0 ∷ 0 ∷ 12 ∷ 9 ∷ 0 ∷ [])
+    ∷ (counted (runCall (fetches 4) 12) is 0 ∷ 0 ∷ 0 ∷ 12 ∷ 10 ∷ 0 ∷ [])
+    -- the host's shape: page 0 in main page 3, page 2 in main page 2, page 1 in swap page 3 + 1; of 4 loads' two victims only page 1 is
+    -- copied, and only page 2, in frame 0, is marked
+    ∷ (moved (runCall two-stores 2) is 0 ∷ 0 ∷ 0 ∷ 2 ∷ 4 ∷ 1 ∷ 2 ∷ 0 ∷ 0 ∷ 1 ∷ (4096 * 3 + 7) ∷ 6 ∷ (4096 * 2 + 7) ∷ 7 ∷ 7 ∷ [])
     -- the same with form numbers, which the four loads keep
     ∷ (moved (runCall with-forms 2) is
-    0 ∷ 0 ∷ 0 ∷ 2 ∷ 4 ∷ 2 ∷ 0 ∷ 0 ∷ (4096 * 3 + 8 * 1 + 7) ∷ (8 * 300 + 6) ∷ (4096 * 2 + 8 * 511 + 7) ∷ 7 ∷ 7 ∷ [])
+    0 ∷ 0 ∷ 0 ∷ 2 ∷ 4 ∷ 1 ∷ 2 ∷ 0 ∷ 0 ∷ 1 ∷ (4096 * 3 + 8 * 1 + 7) ∷ (8 * 300 + 6) ∷ (4096 * 2 + 8 * 511 + 7) ∷ 7 ∷ 7 ∷ [])
+    -- a host write marks the frame of a page that it gives a byte: one byte to page 0, one to page 1 in swap, none to page 0
+    ∷ (noted (writeCall (one-resident 0 0) 4095 (9 ∷ [])) is 0 ∷ 1 ∷ [])
+    ∷ (noted (writeCall (one-resident 0 0) 4096 (9 ∷ [])) is 0 ∷ 0 ∷ [])
+    ∷ (noted (writeCall (one-resident 0 0) 4095 []) is 0 ∷ 0 ∷ [])
+    -- sound: a page that is not as in swap has its mark; one that is may have it; frame 1 is unused and has none
+    ∷ not (right (one-resident 0 1))
+    ∷ right (one-resident 1 1)
+    ∷ right (one-resident 1 0)
+    ∷ not (right (one-resident 2 0))
     -- the small image is taken, and the program prints: stop 1 5, finished 3, loads 1, dpc 12
     ∷ (loadCall image (memory (zeros 20480) (zeros 4096)) .verdict .refused ∷ [] is 0 ∷ [])
     ∷ (consoleText image is
@@ -195,5 +240,6 @@ pub worked : T (every (
 unfolding
     passes everyBelow listBelow compared number store page withPage entry withEntry setSpare spared advanced among resident fits sound translate plan register immediate
     transfer obeyLoad obeyStore obey attempt out into loaded load follow run attempts instruction machineVerdict runVerdict runCall
+    same permitted hostVerdict poke bytesTo markFor marksFor writeCall
     trailer rightsOf pagesOf known wellFormed imageVerdict room loadVerdict invalidEntries fresh loadCall digits consoleVerdict consoleText
 worked = tt

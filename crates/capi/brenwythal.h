@@ -7,6 +7,14 @@
  * changes in them by hand, the next call checks before it acts. Different machines may be used from different
  * threads at the same time, one machine by one thread at a time.
  *
+ * Each frame has a mark, which is set if its page may have changed since it was loaded. A guest's store sets
+ * the mark of the frame that it stores to, brenwythal_write that of each frame that gets a byte, also where
+ * the bytes stay the same; a page load clears the mark of the frame that it fills. A page without a mark is
+ * not copied back to swap when it leaves. So such a page must equal its swap page in all 4096 bytes, and
+ * frames that hold no page have no mark: else the machine is refused 2. A host that changes a frame, or the
+ * swap page of the page in it, by hand sets the frame's mark with it. Under a mark the two may differ; the
+ * guest's bytes are the frame's.
+ *
  * The page table's entry of the guest's page x is the word at pto + 4x of main memory, low byte first. Its
  * spare bits, 11 to 3, are the host's own: no call goes by them, and only brenwythal_load changes them, to 0.
  *
@@ -76,7 +84,8 @@ enum {
     BRENWYTHAL_REFUSAL_BOUND = 1,    /* a shape number or a memory's length breaks its bound; or a record, an
                                         answer or a view's buffer has the wrong length; or bytes to list are
                                         no whole number of words */
-    BRENWYTHAL_REFUSAL_UNSOUND = 2,  /* the machine's registers, frame book and page table do not agree */
+    BRENWYTHAL_REFUSAL_UNSOUND = 2,  /* the machine's registers, frame book, page table and pages do not
+                                        agree */
     BRENWYTHAL_REFUSAL_RIGHTS = 3,   /* a page is outside the page table, or lacks the right */
     BRENWYTHAL_REFUSAL_TOO_MUCH = 4, /* the run or the transfer is too long; the register is not 1 to 31 */
     BRENWYTHAL_REFUSAL_EDITION = 5,  /* the image is under 24 bytes, or its edition is not 1 */
@@ -90,8 +99,8 @@ enum {
 };
 
 /* The length of a record in words, and where its parts begin: P, a, abase, ptl, pto, sbase, b, hand,
- * B[0..31], GPR 0 to 31, DPC, PC'. */
-#define BRENWYTHAL_RECORD 74
+ * B[0..31], GPR 0 to 31, DPC, PC', marks. */
+#define BRENWYTHAL_RECORD 75
 enum {
     BRENWYTHAL_PAGES = 0,  /* P, the pages of main memory: 3 to 64 */
     BRENWYTHAL_FRAMES = 1, /* a, the frames among them: 2 to 32 */
@@ -104,16 +113,18 @@ enum {
     BRENWYTHAL_HELD = 8,   /* B[0..31], the page in each frame */
     BRENWYTHAL_GPR = 40,   /* the registers 0 to 31 */
     BRENWYTHAL_DPC = 72,   /* the address of the next instruction */
-    BRENWYTHAL_NEXT = 73   /* PC', the address of the one after it */
+    BRENWYTHAL_NEXT = 73,  /* PC', the address of the one after it */
+    BRENWYTHAL_MARKS = 74  /* the marks of the frames: bit i for frame i, 0 from b on */
 };
 
 /* The words of the answer of brenwythal_run. */
-#define BRENWYTHAL_RUN_ANSWER 4
+#define BRENWYTHAL_RUN_ANSWER 5
 enum {
     BRENWYTHAL_STOP = 0,     /* why the run ended, by the numbers below */
     BRENWYTHAL_DETAIL = 1,   /* what belongs to it */
     BRENWYTHAL_FINISHED = 2, /* instructions finished */
-    BRENWYTHAL_LOADS = 3     /* pages loaded from swap */
+    BRENWYTHAL_LOADS = 3,    /* pages loaded from swap */
+    BRENWYTHAL_COPIED = 4    /* pages copied back to swap: the loads for which a page with a mark left */
 };
 
 /* Why a run ended, and its detail. After 2 to 4 the registers are as before that instruction. */
@@ -177,8 +188,8 @@ uint32_t brenwythal_read(const uint32_t *record, size_t record_length,
                          uint8_t *into, size_t into_length);
 
 /* Writes the 0 to 256 bytes of `from` to the guest's memory at virtual address `va`; it may go on from one
- * page to the next. Every page needs the right to write. No page is loaded, and the record stays as it is.
- * Refusals 1 to 4. */
+ * page to the next. Every page needs the right to write. No page is loaded. Of the record the marks alone
+ * change: each frame that gets a byte has its mark then. Refusals 1 to 4. */
 uint32_t brenwythal_write(uint32_t *record, size_t record_length,
                           uint8_t *main_memory, size_t main_length,
                           uint8_t *swap, size_t swap_length,

@@ -4,6 +4,6 @@ use Prim.Native.Nat.{ℕ}
 use Rattle.model.specs.Pages.{virtual}
 use Rattle.model.specs.declared.FrameBook.{FrameBook}
 
--- b, hand and the numbers of the pages B[0..31]
-abbrev pub bookOf : ℕ → ℕ → List ℕ → FrameBook
-bookOf used hand held = record { used = used; hand = hand; held = map virtual held }
+-- b, hand, the numbers of the pages B[0..31], and the marks
+abbrev pub bookOf : ℕ → ℕ → List ℕ → ℕ → FrameBook
+bookOf used hand held marks = record { used = used; hand = hand; held = map virtual held; marks = marks }

@@ -1,4 +1,4 @@
-// What soundness says of the frame book alone, by its numbers: b, hand, and B as lent words.
+// What soundness says of the frame book alone, by its numbers: b, hand, the marks, and B as lent words.
 ghost use mathlib.Core.Path.{_≡_};
 ghost use mathlib.Core.List.{List};
 ghost use Prim.Native.Nat.{ℕ, _≤_};
@@ -9,7 +9,7 @@ ghost use Rattle.book.specs.Numbers.{bookOf};
 // "all different (the check stops at the first equal pair)"
 pub fn all_different(used: u32, held: &[u32]) -> bool
     requires { ⌜ (used ≤ 32) × (length (now held) ≡ 32) ⌝ }
-    ensures { λ r. ⌜ ((hand : ℕ) → r ≡ tests.allDifferent (bookOf used hand (now (held .entry)))) ⌝ }
+    ensures { λ r. ⌜ ((hand marks : ℕ) → r ≡ tests.allDifferent (bookOf used hand (now (held .entry)) marks)) ⌝ }
 {
     let n = used as usize;
     let mut different = true;
@@ -31,7 +31,7 @@ pub fn all_different(used: u32, held: &[u32]) -> bool
 // "B is 0 from b on": no word ends the loop early, so that it looks at several at once.
 pub fn rest_zero(used: u32, held: &[u32]) -> bool
     requires { ⌜ (used ≤ 32) × (length (now held) ≡ 32) ⌝ }
-    ensures { λ r. ⌜ ((hand : ℕ) → r ≡ tests.restZero (bookOf used hand (now (held .entry)))) ⌝ }
+    ensures { λ r. ⌜ ((hand marks : ℕ) → r ≡ tests.restZero (bookOf used hand (now (held .entry)) marks)) ⌝ }
 {
     let mut zero = true;
     let mut i = used as usize;
@@ -44,10 +44,18 @@ pub fn rest_zero(used: u32, held: &[u32]) -> bool
 
 // "hand is 0 while b < a, else hand < a"
 pub fn hand_right(a: u32, used: u32, hand: u32) -> bool
-    ensures { λ r. ⌜ ((held : List ℕ) → r ≡ tests.handRight a (bookOf used hand held)) ⌝ }
+    ensures { λ r. ⌜ ((held : List ℕ) (marks : ℕ) → r ≡ tests.handRight a (bookOf used hand held marks)) ⌝ }
 {
     if used < a {
         return hand == 0;
     }
     hand < a
+}
+
+// "marks of unused frames are clear"
+pub fn marks_right(used: u32, marks: u32) -> bool
+    requires { ⌜ used ≤ 32 ⌝ }
+    ensures { λ r. ⌜ ((hand : ℕ) (held : List ℕ) → r ≡ tests.marksRight (bookOf used hand held marks)) ⌝ }
+{
+    (marks as u64) < (1u64 << used)
 }

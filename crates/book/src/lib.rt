@@ -1,5 +1,6 @@
-// The frame book by value, apart from memory: which frame a load takes, and the book after it.
+// The frame book by value, apart from memory: the marks, which frame a load takes, and the book after it.
 pub mod check;
+pub mod marks;
 
 use model::FrameBook;
 use model::VirtualPage;
@@ -17,7 +18,18 @@ pub fn frame(a: u32, b: FrameBook) -> u32
     b.hand
 }
 
-// The book after page y is loaded: "B[f] = y", and b grows by 1, or "hand becomes (f+1) mod a".
+// "An unmarked victim is not copied": whether the next load copies the page in its frame to swap.
+pub fn copies(a: u32, b: FrameBook) -> bool
+    requires { ⌜ frames.frame a b < 32 ⌝ }
+    ensures { λ r. ⌜ r ≡ frames.copies a b ⌝ }
+{
+    if b.used < a {
+        return false;
+    }
+    marks::marked(b.marks, frame(a, b))
+}
+
+// The book after page y is loaded: "B[f] = y", its mark is cleared, and b grows by 1, or "hand becomes (f+1) mod a".
 pub fn advanced(a: u32, b: FrameBook, y: VirtualPage) -> FrameBook
     requires { ⌜ (a ≤ 32) × (frames.frame a b < a) ⌝ }
     ensures { λ r. ⌜ r ≡ frames.advanced a b y ⌝ }
@@ -26,6 +38,7 @@ pub fn advanced(a: u32, b: FrameBook, y: VirtualPage) -> FrameBook
     let i = f as usize;
     let mut next = b;
     next.held[i] = y;
+    next.marks = marks::without_mark(b.marks, f);
     if b.used < a {
         next.used = b.used + 1;
         return next;

@@ -1,13 +1,12 @@
 -- The ways out of each exported call, over plain variables: a slice of another length than said, or the model's own outcome.
-use mathlib.Core.Path.{_≡_, refl, sym, ap, _∙_}
-use mathlib.Core.Bool.{true}
+use mathlib.Core.Path.{_≡_, sym, ap, _∙_}
 use mathlib.Core.List.{List}
 use Prim.Native.Nat.{ℕ}
 use lib.ListN.{length}
 use borrow.Author.Tests.{eq-eqb, ne-eqb}
-use Rattle.model.specs.State.{State, memory, state}
+use Rattle.model.specs.State.{memory, state}
 use Rattle.model.specs.Answers.{refusalNumber, verdictNumbers, runNumbers, imageNumbers}
-use Rattle.model.specs.Calls.{StateOutcome, RunOutcome, runVerdict, runOutcome, runCall, hostVerdict, readCall, writeBy, writeCall, replyVerdict, replyCall}
+use Rattle.model.specs.Calls.{StateOutcome, RunOutcome, runVerdict, runOutcome, runCall, readCall, writeCall, replyVerdict, replyCall}
 use Rattle.model.specs.Image.{loadCall, imageCall}
 use Rattle.model.specs.declared.Machine.{Machine}
 use Rattle.model.specs.declared.Refusal.{Refusal}
@@ -18,7 +17,6 @@ use Rattle.model.specs.declared.RunAnswer.{RunAnswer}
 use Rattle.model.specs.declared.RunAnswer.the-variants.{NotRun}
 use Rattle.model.specs.declared.ImageAnswer.{ImageAnswer}
 use Rattle.record.specs.Words.{recordLength, machineOf, wordsOf, withRegister}
-use Rattle.record.proofs.Words.{words-machine}
 use Rattle.notation.specs.Calls.{assembleNumbers, assembleOutcome, assembleCall, listNumbers, listOutcome, listCall}
 use Rattle.notation.specs.declared.AssembleAnswer.{AssembleAnswer}
 use Rattle.notation.specs.declared.ListAnswer.{ListAnswer}
@@ -49,18 +47,18 @@ module _ (words main swap : List ℕ) (limit : ℕ) (answer : List ℕ) where
   run-short n = simp (ne-eqb _ _ n)
 
   module _ (e : length words ≡ recordLength) where
-    pub run-narrow : (length answer ≡ 4 → ⊥)
+    pub run-narrow : (length answer ≡ 5 → ⊥)
         → record { returned = refusalNumber Bound; words = words; main = main; swap = swap; answer = answer } ≡ calls.run words main swap limit answer
     unfolding calls.run
     run-narrow n = simp (eq-eqb _ _ e, ne-eqb _ _ n)
 
-    pub run-not : length answer ≡ 4 → (m : Machine) → m ≡ machineOf words → (v : Verdict) → v ≡ runVerdict (state m main swap) limit
+    pub run-not : length answer ≡ 5 → (m : Machine) → m ≡ machineOf words → (v : Verdict) → v ≡ runVerdict (state m main swap) limit
         → (r : Refusal) → v ≡ Refused r → (n : ℕ) (w : List ℕ) → (n ≡ runNumbers (NotRun r) .verdict .refused) × (w ≡ calls.runWords (runNumbers (NotRun r)))
         → record { returned = n; words = words; main = main; swap = swap; answer = w } ≡ calls.run words main swap limit answer
     run-not f m em v ev r h n w ew =
         rw (ew .0, ew .1) (sym (run-refused words e r main swap limit answer f (ap (λ k. runVerdict (state k main swap) limit) (sym em) ∙ sym ev ∙ h)))
 
-    pub run-whole : length answer ≡ 4 → (m : Machine) → m ≡ machineOf words
+    pub run-whole : length answer ≡ 5 → (m : Machine) → m ≡ machineOf words
         → calls.ran (runCall (state m main swap) limit) ≡ calls.run words main swap limit answer
     unfolding calls.run
     run-whole f m em = rw em (simp (eq-eqb _ _ e, eq-eqb _ _ f))
@@ -93,20 +91,6 @@ module _ (words main swap : List ℕ) (va : ℕ) (bytes : List ℕ) where
       → calls.machined (writeCall (state m main swap) va bytes) ≡ calls.write words main swap va bytes
   unfolding calls.write
   write-whole e m em = rw em (simp (eq-eqb _ _ e))
-
--- a host write leaves the record as it is
-same-machine : (p : State) (va : ℕ) (bytes : List ℕ) → writeCall p va bytes .state .machine ≡ p .machine
-unfolding writeCall
-same-machine p va bytes = by (hostVerdict true p va (length bytes))
-  where
-    by : (v : Verdict) → writeBy v p va bytes .state .machine ≡ p .machine
-    by Granted = refl
-    by (Refused r) = refl
-
-pub write-kept : (words : List ℕ) → length words ≡ recordLength → (p : State) → p .machine ≡ machineOf words → (va : ℕ) (bytes : List ℕ)
-    → (o : StateOutcome) → o ≡ writeCall p va bytes → words ≡ wordsOf (o .state .machine)
-write-kept words e p em va bytes o eo =
-    sym (words-machine words e) ∙ ap wordsOf (sym (ap (λ (z : StateOutcome). z .state .machine) eo ∙ same-machine p va bytes ∙ em))
 
 -- ---- reply
 module _ (words : List ℕ) (i v : ℕ) where

@@ -24,12 +24,12 @@ pub all-set : (vs l : List ℕ) → length l ≡ length vs → sets l 0 vs ≡ v
 all-set vs l e =
     sets-eq vs l 0 (omega arith) ∙ ap (λ z. vs ++ z) (drop-of-length-le l {i = 0 + length vs} (omega arith)) ∙ append-nil vs
 
-pub ran : (a : RunAnswer) (s : Stop) (finished loads : ℕ) → a ≡ Ran s finished loads → (n : ℕ) → n ≡ stopNumber s → (d : ℕ) → d ≡ stopDetail s
-    → (w : List ℕ) → w ≡ n ∷ d ∷ finished ∷ loads ∷ [] → (0 ≡ runNumbers a .verdict .refused) × (w ≡ runWords (runNumbers a))
-ran a s finished loads e n en d ed w ew = (simp e, simp (e, ew, en, ed))
+pub ran : (a : RunAnswer) (s : Stop) (finished loads copied : ℕ) → a ≡ Ran s finished loads copied → (n : ℕ) → n ≡ stopNumber s → (d : ℕ) → d ≡ stopDetail s
+    → (w : List ℕ) → w ≡ n ∷ d ∷ finished ∷ loads ∷ copied ∷ [] → (0 ≡ runNumbers a .verdict .refused) × (w ≡ runWords (runNumbers a))
+ran a s finished loads copied e n en d ed w ew = (simp e, simp (e, ew, en, ed))
 
 pub not-run : (a : RunAnswer) (r : Refusal) → a ≡ NotRun r → (n : ℕ) → n ≡ refusalNumber r
-    → (w : List ℕ) → w ≡ 0 ∷ 0 ∷ 0 ∷ 0 ∷ [] → (n ≡ runNumbers a .verdict .refused) × (w ≡ runWords (runNumbers a))
+    → (w : List ℕ) → w ≡ 0 ∷ 0 ∷ 0 ∷ 0 ∷ 0 ∷ [] → (n ≡ runNumbers a .verdict .refused) × (w ≡ runWords (runNumbers a))
 not-run a r e n en w ew = (simp (e, en), simp (e, ew))
 
 pub image : (a : ImageAnswer) (ptl start frames : ℕ) → a ≡ Image ptl start frames

@@ -28,9 +28,9 @@ module _ (words : List ℕ) (e : length words ≡ recordLength) (r : Refusal) wh
     unfolding load loadCall wordsOf
     load-refused file h = simp (eq-eqb _ _ e, h)
 
-    pub run-refused : (limit : ℕ) (answer : List ℕ) → length answer ≡ 4 → runVerdict (lent words main swap) limit ≡ Refused r
+    pub run-refused : (limit : ℕ) (answer : List ℕ) → length answer ≡ 5 → runVerdict (lent words main swap) limit ≡ Refused r
         → run words main swap limit answer
-        ≡ record { returned = refusalNumber r; words = words; main = main; swap = swap; answer = 0 ∷ 0 ∷ 0 ∷ 0 ∷ [] }
+        ≡ record { returned = refusalNumber r; words = words; main = main; swap = swap; answer = 0 ∷ 0 ∷ 0 ∷ 0 ∷ 0 ∷ [] }
     unfolding run runCall
     run-refused limit answer f h = simp (eq-eqb _ _ e, eq-eqb _ _ f, h, words-machine words e)
 

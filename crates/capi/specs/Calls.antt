@@ -45,7 +45,7 @@ write words main swap va bytes =
     if whole words then machined (writeCall (lent words main swap) va bytes)
     else record { returned = refusalNumber Bound; words = words; main = main; swap = swap }
 
--- ---- run, with an answer of four words
+-- ---- run, with an answer of five words
 pub record Ran : Type 0 where
   pub returned : ℕ
   pub words : List ℕ
@@ -54,7 +54,7 @@ pub record Ran : Type 0 where
   pub answer : List ℕ
 
 abbrev pub runWords : RunNumbers → List ℕ
-runWords n = n .stop ∷ n .detail ∷ n .finished ∷ n .loads ∷ []
+runWords n = n .stop ∷ n .detail ∷ n .finished ∷ n .loads ∷ n .copied ∷ []
 
 abbrev pub ran : RunOutcome → Ran
 ran o = record {
@@ -67,7 +67,7 @@ ran o = record {
 
 unfoldable pub run : List ℕ → List ℕ → List ℕ → ℕ → List ℕ → Ran
 run words main swap limit answer =
-    if whole words && eqb (length answer) 4 then ran (runCall (lent words main swap) limit)
+    if whole words && eqb (length answer) 5 then ran (runCall (lent words main swap) limit)
     else record { returned = refusalNumber Bound; words = words; main = main; swap = swap; answer = answer }
 
 -- ---- read

@@ -35,7 +35,7 @@ pub extern "C" fn brenwythal_load(
     answers::verdict_number(v)
 }
 
-// Runs at most `limit` instructions. The answer: stop, detail, finished, loads.
+// Runs at most `limit` instructions. The answer: stop, detail, finished, loads, copied.
 #[no_mangle]
 pub extern "C" fn brenwythal_run(
     words: &mut [u32],
@@ -50,7 +50,7 @@ pub extern "C" fn brenwythal_run(
     if words.len() != RECORD {
         return 1;
     }
-    if answer.len() != 4 {
+    if answer.len() != 5 {
         return 1;
     }
     match verdict::run_verdict(record::machine_of(words), main, swap, limit) {
@@ -99,7 +99,9 @@ pub extern "C" fn brenwythal_write(
         return 1;
     }
     let h = machine::host_write(record::machine_of(words), main, swap, va, from);
+    let m = h.machine;
     let v = h.verdict;
+    record::put_machine(words, m);
     answers::verdict_number(v)
 }
 

@@ -21,12 +21,13 @@ use Rattle.model.specs.declared.Plan.{Plan}
 use Rattle.model.specs.declared.Access.{Access}
 use Rattle.model.specs.declared.Access.the-variants as said
 use Rattle.model.specs.declared.Stop.the-variants as stop
+use Rattle.model.specs.declared.Outcome.{Outcome}
 use Rattle.laws.specs.Good.{Safe}
 use Rattle.laws.proofs.Access.{in-main}
 use Rattle.laws.proofs.Choice.{clash}
 use Rattle.cpu.specs.declared.access.Reached.{Reached}
 use Rattle.cpu.specs.declared.access.Reached.the-variants.{Misaligned, Illegal, Fault, At}
-use Rattle.cpu.specs.Reach.{reachedBy, reach, ended, after}
+use Rattle.cpu.specs.Reach.{reachedBy, reach, ended, loaded, stored, after}
 
 -- ---- "Writes to GPR 0 are dropped."
 module _ (gpr : List ℕ) (i v : ℕ) where
@@ -88,11 +89,11 @@ module _ (access : Bool → ℕ → Access) (gpr bytes : List ℕ) (p : Pcs) whe
         pick false a = refl
 
     -- where it goes to no place, the outcome is that of r alone
-    pub transfer-ended : ((i : ℕ) → r ≡ At i → ⊥) → tried (ended p va r) gpr bytes ≡ transfer access gpr bytes p writing width va done
-    unfolding after ended
-    transfer-ended none = pick r none ∙ transfers
+    pub transfer-ended : (o : ℕ → Outcome) → ((i : ℕ) → r ≡ At i → ⊥) → tried (ended va o r) gpr bytes ≡ transfer access gpr bytes p writing width va done
+    unfolding after
+    transfer-ended o none = pick r none ∙ transfers
       where
-        pick : (r : Reached) → ((i : ℕ) → r ≡ At i → ⊥) → tried (ended p va r) gpr bytes ≡ after gpr bytes va done r
+        pick : (r : Reached) → ((i : ℕ) → r ≡ At i → ⊥) → tried (ended va o r) gpr bytes ≡ after gpr bytes va done r
         pick Misaligned n = refl
         pick Illegal n = refl
         pick Fault n = refl
@@ -101,15 +102,21 @@ module _ (access : Bool → ℕ → Access) (gpr bytes : List ℕ) (p : Pcs) whe
   -- a load at place i: x is read, v written, g left
   pub load-at : (width : Width) (signed : Bool) (rd va : ℕ) (r : Reached) → r ≡ reach (size width) va (access false va)
       → (i : ℕ) → r ≡ At i → (x : ℕ) → x ≡ number (size width) bytes i → (v : ℕ) → v ≡ (if signed then extend (8 * size width) x else x)
-      → (g : List ℕ) → g ≡ written gpr rd v → tried (ended p va (At i)) g bytes ≡ obeyLoad access gpr bytes p width signed rd va
-  unfolding obeyLoad after ended
+      → (g : List ℕ) → g ≡ written gpr rd v → tried (loaded p va (At i)) g bytes ≡ obeyLoad access gpr bytes p width signed rd va
+  unfolding obeyLoad after loaded
   load-at width signed rd va r is i at x hx v hv g hg = rw (hg, hv, hx) (transfers false width va _ (At i) (sym at ∙ is))
 
   -- a store at place i leaves the bytes b
   pub store-at : (width : Width) (va v : ℕ) (r : Reached) → r ≡ reach (size width) va (access true va) → (i : ℕ) → r ≡ At i
-      → (b : List ℕ) → b ≡ store (size width) bytes i v → tried (ended p va (At i)) gpr b ≡ obeyStore access gpr bytes p width va v
-  unfolding obeyStore after ended
+      → (b : List ℕ) → b ≡ store (size width) bytes i v → tried (stored p va (At i)) gpr b ≡ obeyStore access gpr bytes p width va v
+  unfolding obeyStore after stored
   store-at width va v r is i at b hb = rw hb (transfers true width va _ (At i) (sym at ∙ is))
+
+  -- an attempt whose fetch goes to no place
+  pub attempt-ended : (r : Reached) → r ≡ reach 4 (p .dpc) (access false (p .dpc)) → ((i : ℕ) → access false (p .dpc) ≡ said.At i → ⊥)
+      → (o : Outcome) → o ≡ loaded p (p .dpc) r → tried o gpr bytes ≡ attempt access gpr bytes p
+  unfolding attempt loaded
+  attempt-ended r is none o e = rw e (transfer-ended false word (p .dpc) _ r is _ (λ i at. none i (placed _ _ _ i (sym is ∙ at) .at)))
 
   -- an attempt whose fetch goes to place i: the word w, its plan t
   pub attempt-at : (i : ℕ) → At i ≡ reach 4 (p .dpc) (access false (p .dpc)) → (w : ℕ) → w ≡ number 4 bytes i

@@ -11,7 +11,7 @@ use Rattle.model.specs.declared.Access.{Access}
 use Rattle.model.specs.declared.Access.the-variants as says
 use Rattle.model.specs.declared.Stop.the-variants as stop
 use Rattle.model.specs.declared.Outcome.{Outcome}
-use Rattle.model.specs.declared.Outcome.the-variants.{Done, Missing, Stopped}
+use Rattle.model.specs.declared.Outcome.the-variants.{Done, Wrote, Missing, Stopped}
 use Rattle.cpu.specs.declared.access.Reached.{Reached}
 use Rattle.cpu.specs.declared.access.Reached.the-variants.{Misaligned, Illegal, Fault, At}
 
@@ -25,11 +25,20 @@ unfoldable pub reach : ℕ → ℕ → Access → Reached
 reach width va a = if aligned width va then reachedBy a else Misaligned
 
 -- "illegal: stop 2; fault: load, begin anew", "DPC becomes PC', PC' becomes .. PC'+4"
-unfoldable pub ended : Pcs → ℕ → Reached → Outcome
-ended p va Misaligned = Stopped (stop.Misaligned va)
-ended p va Illegal = Stopped (stop.IllegalMemory va)
-ended p va Fault = Missing va
-ended p va (At i) = Done (record { dpc = p .next; next = onward (p .next) })
+abbrev pub ended : ℕ → (ℕ → Outcome) → Reached → Outcome
+ended va done Misaligned = Stopped (stop.Misaligned va)
+ended va done Illegal = Stopped (stop.IllegalMemory va)
+ended va done Fault = Missing va
+ended va done (At i) = done i
+
+abbrev pub onwardOf : Pcs → Pcs
+onwardOf p = record { dpc = p .next; next = onward (p .next) }
+
+unfoldable pub loaded : Pcs → ℕ → Reached → Outcome
+loaded p va r = ended va (λ i. Done (onwardOf p)) r
+
+unfoldable pub stored : Pcs → ℕ → Reached → Outcome
+stored p va r = ended va (λ i. Wrote (onwardOf p) i) r
 
 -- what is done at the place; where there is none, registers and bytes stay
 unfoldable pub after : List ℕ → List ℕ → ℕ → (ℕ → Tried) → Reached → Tried

@@ -1,4 +1,4 @@
-// One access: what it comes to before anything is read or written, and the outcome of a load or store by it.
+// One access: what it comes to before anything is read or written, and the outcome of a load and of a store by it.
 use dlx::decode;
 use model::Access;
 use model::Outcome;
@@ -48,14 +48,25 @@ pub fn pcs_onward(p: Pcs) -> Pcs
     }
 }
 
-// The outcome of a load or store whose access to va came to r.
-pub fn ended(p: Pcs, va: u32, r: Reached) -> Outcome
-    ensures { λ o. ⌜ o ≡ rule.ended p va r ⌝ }
+// The outcome of a load whose access to va came to r, and of a store.
+pub fn loaded(p: Pcs, va: u32, r: Reached) -> Outcome
+    ensures { λ o. ⌜ o ≡ rule.loaded p va r ⌝ }
 {
     match r {
         Reached::Misaligned => Outcome::Stopped(Stop::Misaligned(va)),
         Reached::Illegal => Outcome::Stopped(Stop::IllegalMemory(va)),
         Reached::Fault => Outcome::Missing(va),
         Reached::At(_) => Outcome::Done(pcs_onward(p)),
+    }
+}
+
+pub fn stored(p: Pcs, va: u32, r: Reached) -> Outcome
+    ensures { λ o. ⌜ o ≡ rule.stored p va r ⌝ }
+{
+    match r {
+        Reached::Misaligned => Outcome::Stopped(Stop::Misaligned(va)),
+        Reached::Illegal => Outcome::Stopped(Stop::IllegalMemory(va)),
+        Reached::Fault => Outcome::Missing(va),
+        Reached::At(i) => Outcome::Wrote(pcs_onward(p), i),
     }
 }

@@ -6,13 +6,11 @@ use model::VirtualPage;
 use paging::pages;
 use paging::table;
 ghost use mathlib.Core.Path.{_≡_};
-ghost use mathlib.Core.Bool.{false};
 ghost use lib.Dec.{eqb};
 ghost use lib.ListN.{length};
 ghost use Rattle.model.specs.Pages.{pageOf};
-ghost use Rattle.model.specs.Translate.{translate};
 ghost use Rattle.laws.specs.Good.{Fit};
-ghost use Rattle.cpu.specs.Found.{Found};
+ghost use Rattle.cpu.specs.Found.{Found, Finds};
 
 pub struct CodePage {
     pub page: VirtualPage,
@@ -31,7 +29,7 @@ pub fn covers(c: CodePage, va: u32) -> bool
 // Where the page of va stands; nowhere, if it may not be read or is not resident.
 pub fn find(s: Shape, m: &[u8], va: u32) -> CodePage
     requires { ⌜ Fit s (length (now m)) ⌝ }
-    ensures { λ r. ⌜ Found s (now (m .entry)) r ⌝ }
+    ensures { λ r. ⌜ Found s (now (m .entry)) r × Finds s (now (m .entry)) va r ⌝ }
 {
     let x = pages::page_of(va);
     let a = table::locate(s, m, va, false);
@@ -45,15 +43,4 @@ pub fn find(s: Shape, m: &[u8], va: u32) -> CodePage
             frame: pages::NO_FRAME,
         },
     }
-}
-
-// The fetch at va: on the code page it is in that frame, elsewhere where the table says.
-pub(crate) fn locate(s: Shape, m: &[u8], c: CodePage, va: u32) -> Access
-    requires { ⌜ Fit s (length (now m)) × Found s (now m) c ⌝ }
-    ensures { λ r. ⌜ r ≡ translate s (now (m .entry)) false va ⌝ }
-{
-    if covers(c, va) {
-        return Access::At(pages::main_at(c.frame, va));
-    }
-    table::locate(s, m, va, false)
 }

@@ -1,67 +1,168 @@
--- A leg under way, between two attempts, and what each outcome of the next attempt makes of it.
-use mathlib.Core.Path.{_≡_, refl, sym, ap, ap₂, _∙_}
-use mathlib.Core.List.{List}
-use Prim.Native.Nat.{ℕ, suc, _-_, _<_, _≤_}
+-- A leg under way, between two attempts, and what each outcome of the next attempt makes of it: the main pages that were stored to
+-- stand for the marks, whatever they were before the leg.
+use mathlib.Core.Path.{_≡_, refl, sym, ap, ap₂, subst, _∙_}
+use mathlib.Core.Bool.{Bool, true, false, not}
+use mathlib.Core.Logic.{⊎-elim}
+use mathlib.Core.List.{List, [], _∷_}
+use Prim.Native.Nat.{ℕ, suc, _+_, _-_, _*_, _/_, _%_, _^_, _<_, _≤_}
+use native.Mathlib.Nat.{zero-div, one-mul, mod-eq-of-lt}
 use native.Mathlib.Omega.{arith}
-use Rattle.model.specs.Attempt.{tried}
+use borrow.Author.Tests.{eqb-true, not-false}
+use lib.Dec.{eqb}
+use lib.Pow.{pow-lt}
+use lib.Bits.{bitOr}
+use types.Run.{OneOf}
+use denote.Enum.Declared.{tagOf}
+use Rattle.model.proofs.Outcome.{the-type}
+use Rattle.model.specs.Choice.{if_then_else_}
+use Rattle.model.specs.Words.{aligned}
+use Rattle.model.specs.Attempt.{Tried, tried, stopped, accessed, transfer, attempt}
+use Rattle.model.specs.Translate.{translate}
 use Rattle.model.specs.declared.Shape.{Shape}
 use Rattle.model.specs.declared.Pcs.{Pcs}
+use Rattle.model.specs.declared.Access.{Access}
+use Rattle.model.specs.declared.Access.the-variants.{Illegal, Fault, At}
+use Rattle.model.specs.declared.Stop.the-variants as stop
 use Rattle.model.specs.declared.Outcome.{Outcome}
-use Rattle.model.specs.declared.Outcome.the-variants.{Done}
+use Rattle.model.specs.declared.Outcome.the-variants.{Done, Wrote, Trapped, Missing, Stopped}
 use Rattle.laws.specs.Good.{Safe}
-use Rattle.laws.proofs.Kept.{same-accesses, still-safe, unchanged}
+use Rattle.laws.proofs.Marks.{mark-joined, joined-none, joined-most}
+use Rattle.laws.proofs.Agree.{Finishes, done, wrote}
+use Rattle.laws.proofs.Kept.{same-accesses, still-safe, unchanged, wrote-framed}
 use Rattle.cpu.specs.Found.{Found}
 use Rattle.cpu.specs.declared.code.CodePage.{CodePage}
 use Rattle.cpu.proofs.CodePages.{found-over}
-use Rattle.engine.specs.Engine.{Spot, spot, tryAt, Walk, start, step, Walked}
+use Rattle.engine.specs.Engine.{spot, marksAfter, Walk, start, step, store, Finished, Walked}
 
--- n − left instructions are finished
-pub record Walking (s : Shape) (c : CodePage) (n : ℕ) (from at : Spot) (left : ℕ) : Type 0 where
-  pub few : left ≤ n
-  pub way : Walk s from (n - left) at
-  pub safe : Safe s (at .main)
-  pub found : Found s (at .main) c
+-- ---- whether an outcome finishes its instruction, by its tag
+another : {n : ℕ} → n < 2 → OneOf (2 ∷ 3 ∷ 4 ∷ []) n → ⊥
+another h k = ⊎-elim (λ e. omega (arith, h, e)) (⊎-elim (λ e. omega (arith, h, e)) (λ e. omega (arith, h, e))) k
 
-pub begun : (s : Shape) (c : CodePage) (n : ℕ) (a : Spot) → Safe s (a .main) → Found s (a .main) c → Walking s c n a a n
-begun s c n a h d = record { few = omega arith; way = let e : n - n ≡ 0 = omega arith in rw e start; safe = h; found = d }
+pub unfinished : (o : Outcome) → OneOf (2 ∷ 3 ∷ 4 ∷ []) (tagOf the-type o) → ¬ Finished o
+unfinished (Done q) k = λ f. another (omega arith) k
+unfinished (Wrote q i) k = λ f. another (omega arith) k
+unfinished (Trapped q n) k = λ f. f
+unfinished (Missing va) k = λ f. f
+unfinished (Stopped s) k = λ f. f
 
-module _ (s : Shape) (c : CodePage) (n : ℕ) (from at : Spot) (left : ℕ) (u : Walking s c n from at left) (more : 0 < left)
-    (r : Outcome) (g m : List ℕ) (is : tried r g m ≡ tryAt s at) where
-  pub went-on : (q : Pcs) → r ≡ Done q → Walking s c n from (spot g q m) (left - 1)
-  went-on q e =
-      let l : left ≤ n = u .few in
-      let k : n - (left - 1) ≡ suc (n - left) = omega arith in
-      let b : m ≡ tryAt s at .bytes = ap (λ z. z .bytes) is in
-      record {
-        few = omega arith;
-        way = rw k (step (u .way) q g m (ap (λ o. tried o g m) (sym e) ∙ is));
-        safe = rw b (still-safe s (at .main) (u .safe) (at .gpr) (at .pcs));
-        found = rw b (found-over s (at .main) _ c (same-accesses s (at .main) (u .safe) (at .gpr) (at .pcs)) (u .found));
-      }
+pub finished : (o : Outcome) → OneOf (0 ∷ 1 ∷ []) (tagOf the-type o) → Finished o
+finished (Done q) k = tt
+finished (Wrote q i) k = tt
+finished (Trapped q n) k = ⊎-elim (λ e. omega (arith, e)) (λ e. omega (arith, e)) k
+finished (Missing va) k = ⊎-elim (λ e. omega (arith, e)) (λ e. omega (arith, e)) k
+finished (Stopped s) k = ⊎-elim (λ e. omega (arith, e)) (λ e. omega (arith, e)) k
 
-  -- the leg ends behind this instruction
-  pub left-between : (q : Pcs) → r ≡ Done q → Walked s from n (record { outcome = Done q; left = left - 1; pcs = q }) g m
-  left-between q e =
-      let l : left ≤ n = u .few in
-      let w : Walking s c n from (spot g q m) (left - 1) = went-on q e in
-      record { few = w .few; way = w .way; between = λ z y. omega arith; ending = λ not. absurd (not q refl) }
+-- an attempt whose fetch goes to no place does not finish it
+pub no-fetch : (access : Bool → ℕ → Access) (gpr bytes : List ℕ) (p : Pcs) → ((i : ℕ) → access false (p .dpc) ≡ At i → ⊥)
+    → ¬ Finished (attempt access gpr bytes p .outcome)
+unfolding attempt transfer
+no-fetch access gpr bytes p none = pick _ (aligned 4 (p .dpc)) (access false (p .dpc)) none
+  where
+    pick : (on : ℕ → Tried) (b : Bool) (a : Access) → ((i : ℕ) → a ≡ At i → ⊥)
+        → ¬ Finished ((if b then accessed access gpr bytes p a (p .dpc) on else stopped access gpr bytes p (stop.Misaligned (p .dpc))) .outcome)
+    pick on false a n = λ f. f
+    pick on true Illegal n = λ f. f
+    pick on true Fault n = λ f. f
+    pick on true (At i) n = absurd (n i refl)
 
-  -- it ends with this attempt
-  pub left-with : ((q : Pcs) → r ≡ Done q → ⊥) → Walked s from n (record { outcome = r; left = left; pcs = at .pcs }) g m
-  left-with not =
-      let same : (tryAt s at .gpr ≡ at .gpr) × (tryAt s at .bytes ≡ at .main) =
-      unchanged s (at .main) (u .safe) (at .gpr) (at .pcs) (λ q e. not q (ap (λ z. z .outcome) is ∙ e)) in
-      let eg : g ≡ at .gpr = ap (λ z. z .gpr) is ∙ same .0 in
-      let em : m ≡ at .main = ap (λ z. z .bytes) is ∙ same .1 in
-      rw (eg, em) (record {
-        few = u .few;
-        way = u .way;
-        between = λ q e. absurd (not q e);
-        ending = λ z. (more, ap₂ (λ x y. tried r x y) (sym eg) (sym em) ∙ is);
-      })
+-- ---- a leg
+-- the test of the code page
+pub still-on : (x y : ℕ) (on : Bool) → on ≡ eqb x y → not on ≡ false → x ≡ y
+still-on x y on e h = eqb-true x y (sym e ∙ not-false on h)
 
--- none is left
-pub left-over : (s : Shape) (c : CodePage) (n : ℕ) (from at : Spot) (left : ℕ) → Walking s c n from at left → 0 < n → left ≡ 0
-    → Walked s from n (record { outcome = Done (at .pcs); left = left; pcs = at .pcs }) (at .gpr) (at .main)
-left-over s c n from at left u p z =
-    record { few = u .few; way = u .way; between = λ q e. omega (arith, z); ending = λ not. absurd (not (at .pcs) refl) }
+-- 1 << k
+one-bit : (k : ℕ) → k < 64 → 1 * 2 ^ k % 2 ^ 64 ≡ 2 ^ k
+one-bit k h = ap (λ (x : ℕ). x % 2 ^ 64) (one-mul (2 ^ k)) ∙ mod-eq-of-lt (pow-lt h)
+
+module _ (s : Shape) (c : CodePage) (n : ℕ) (g₀ : List ℕ) (p₀ : Pcs) (m₀ : List ℕ) where
+  -- n − left instructions are finished
+  pub record Walking (g : List ℕ) (p : Pcs) (m : List ℕ) (left stored : ℕ) : Type 0 where
+    pub few : left ≤ n
+    pub framed : stored / 2 ^ s .abase < 2 ^ 32
+    pub way : (marks : ℕ) → Walk s (spot g₀ p₀ m₀ marks) (n - left) (spot g p m (marksAfter s marks stored))
+    pub safe : Safe s m
+    pub found : Found s m c
+
+  pub begun : Safe s m₀ → Found s m₀ c → Walking g₀ p₀ m₀ n 0
+  begun h d = record {
+    few = omega arith;
+    framed = rw (zero-div (2 ^ s .abase)) (omega arith);
+    way = λ marks. let e : n - n ≡ 0 = omega arith in rw (e, joined-none (s .abase) marks) start;
+    safe = h;
+    found = d;
+  }
+
+  -- the leg ends there, between two instructions, as the code has it
+  pub left-between : (g : List ℕ) (p : Pcs) (m : List ℕ) (left stored : ℕ) → Walking g p m left stored → left < n
+      → (g′ : List ℕ) → g′ ≡ g → (m′ : List ℕ) → m′ ≡ m → (p′ : Pcs) → p′ ≡ p → (left′ : ℕ) → left′ ≡ left → (stored′ : ℕ) → stored′ ≡ stored
+      → (marks : ℕ) → Walked s (spot g₀ p₀ m₀ marks) n (record { outcome = Done p′; left = left′; pcs = p′; stored = stored′ }) g′ m′
+  left-between g p m left stored u h g′ eg m′ em p′ ep left′ el stored′ es marks = rw (eg, em, ep, el, es) (record {
+    few = u .few;
+    framed = u .framed;
+    way = u .way marks;
+    between = λ y. h;
+    ending = λ not. absurd (not tt);
+  })
+
+  module _ (g : List ℕ) (p : Pcs) (m : List ℕ) (left stored : ℕ) (u : Walking g p m left stored) (more : 0 < left)
+      (r : Outcome) (g′ m′ : List ℕ) (is : tried r g′ m′ ≡ attempt (translate s m) g m p) where
+    outcome-is : attempt (translate s m) g m p .outcome ≡ r
+    outcome-is = ap (λ z. z .outcome) (sym is)
+
+    tried-is : (o : Outcome) → r ≡ o → tried o g′ m′ ≡ attempt (translate s m) g m p
+    tried-is o e = ap (λ z. tried z g′ m′) (sym e) ∙ is
+
+    framed-in : (q : Pcs) (i : ℕ) → r ≡ Wrote q i → (s .abase ≤ i / 4096) × (i / 4096 < s .abase + s .frames)
+    framed-in q i e = wrote-framed s m (u .safe) g p q i (outcome-is ∙ e)
+
+    pub page-most : (q : Pcs) (i : ℕ) → r ≡ Wrote q i → i / 4096 < 64
+    page-most q i e = omega (arith, framed-in q i e .1, u .safe .fit .frames-in, u .safe .fit .pages-most)
+
+    -- it finishes its instruction, and t are the pages stored to
+    went : (q : Pcs) (t : ℕ) → t / 2 ^ s .abase < 2 ^ 32
+        → ((marks : ℕ) → Walk s (spot g₀ p₀ m₀ marks) (suc (n - left)) (spot g′ q m′ (marksAfter s marks t))) → Walking g′ q m′ (left - 1) t
+    went q t f way =
+        let l : left ≤ n = u .few in
+        let k : n - (left - 1) ≡ suc (n - left) = omega arith in
+        let b : m′ ≡ attempt (translate s m) g m p .bytes = ap (λ z. z .bytes) is in
+        record {
+          few = omega arith;
+          framed = f;
+          way = λ marks. rw k (way marks);
+          safe = rw b (still-safe s m (u .safe) g p);
+          found = rw b (found-over s m _ c (same-accesses s m (u .safe) g p) (u .found));
+        }
+
+    -- as the code has it, with the PCs and the pages stored to that it goes on with
+    pub went-on : (q : Pcs) → r ≡ Done q → (p′ : Pcs) → p′ ≡ q → (t : ℕ) → t ≡ stored → Walking g′ p′ m′ (left - 1) t
+    went-on q e p′ is-p t is-t =
+        rw (is-p, is-t) (went q stored (u .framed) (λ marks. step (u .way marks) q g′ m′ (tried-is (Done q) e)))
+
+    pub stored-on : (q : Pcs) (i : ℕ) → r ≡ Wrote q i → (p′ : Pcs) → p′ ≡ q → (t : ℕ) → t ≡ bitOr stored (1 * 2 ^ (i / 4096) % 2 ^ 64)
+        → Walking g′ p′ m′ (left - 1) t
+    stored-on q i e p′ is-p t is-t =
+        let f : (s .abase ≤ i / 4096) × (i / 4096 < s .abase + s .frames) = framed-in q i e in
+        rw (is-p, is-t, one-bit (i / 4096) (page-most q i e))
+        (went q (bitOr stored (2 ^ (i / 4096)))
+        (joined-most (s .abase) (i / 4096) stored (f .0) (omega (arith, f .1, u .safe .fit .frames-most)) (u .framed))
+        (λ marks. subst (λ (k : ℕ). Walk s (spot g₀ p₀ m₀ marks) (suc (n - left)) (spot g′ q m′ k)) (mark-joined (s .abase) (i / 4096) marks stored (f .0))
+        (store (u .way marks) q i g′ m′ (tried-is (Wrote q i) e))))
+
+    -- the leg ends with this attempt
+    pub left-with : ¬ Finished r → (marks : ℕ) → Walked s (spot g₀ p₀ m₀ marks) n (record { outcome = r; left = left; pcs = p; stored = stored }) g′ m′
+    left-with not marks =
+        let same : (attempt (translate s m) g m p .gpr ≡ g) × (attempt (translate s m) g m p .bytes ≡ m) =
+        unchanged s m (u .safe) g p (λ f. not (finishes (subst Finishes outcome-is f))) in
+        let eg : g′ ≡ g = ap (λ z. z .gpr) is ∙ same .0 in
+        let em : m′ ≡ m = ap (λ z. z .bytes) is ∙ same .1 in
+        rw (eg, em) (record {
+          few = u .few;
+          framed = u .framed;
+          way = u .way marks;
+          between = λ y. absurd (not y);
+          ending = λ z. (more, ap₂ (λ x y. tried r x y) (sym eg) (sym em) ∙ is);
+        })
+      where
+        finishes : {o : Outcome} → Finishes o → Finished o
+        finishes done = tt
+        finishes wrote = tt

@@ -34,6 +34,10 @@ module _ (p : State) (array : length (p .machine .book .held) ≡ 32) where
   unfolding hostVerdict
   host-leans writing va n v e h = (reachable _ (sym e ∙ h), host-inside writing p va n (sym e ∙ h))
 
+  pub host-most : (writing : Bool) (va n : ℕ) (v : Verdict) → v ≡ hostVerdict writing p va n → v ≡ Granted → n ≤ 256
+  unfolding hostVerdict
+  host-most writing va n v e h = leb-true n 256 (unless-granted (leb n 256) TooMuch _ (machine-granted p _ (sym e ∙ h) .2) .0)
+
   pub view-leans : (x : VirtualPage) (v : Verdict) → v ≡ viewVerdict p x → v ≡ Granted
       → Reachable (p .machine .shape) (p .memory .main) (length (p .memory .swap)) × (x .0 < p .machine .shape .ptl)
   unfolding viewVerdict

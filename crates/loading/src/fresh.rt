@@ -55,6 +55,7 @@ fn blank(shape: Shape, pcs: Pcs) -> Machine
             used: 0,
             hand: 0,
             held: [VirtualPage(0); 32],
+            marks: 0,
         },
         gpr: [0; 32],
         pcs: pcs,

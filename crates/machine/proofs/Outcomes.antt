@@ -8,7 +8,7 @@ use denote.Ref.{RefT, now}
 use Rattle.model.specs.State.{State, Memory, memory, state}
 use Rattle.model.specs.Answers.{verdictNumbers}
 use Rattle.model.specs.Run.{Course, Counted, run, instruction, uncounted}
-use Rattle.model.specs.Calls.{runVerdict, runOutcome, reported, runCall, hostVerdict, bytesFrom, readCall, bytesTo, writeCall, viewVerdict, viewBy, viewCall, replyVerdict, replyCall}
+use Rattle.model.specs.Calls.{runVerdict, runOutcome, reported, runCall, hostVerdict, bytesFrom, readCall, bytesTo, marksFor, writeCall, viewVerdict, viewBy, viewCall, replyVerdict, replyCall}
 use Rattle.model.specs.Parts.{PartOf, noPart, pageHome, pagePart}
 use Rattle.model.specs.Promises.{PageViewPromise}
 use Rattle.model.specs.declared.Machine.{Machine}
@@ -17,6 +17,7 @@ use Rattle.model.specs.declared.Refusal.{Refusal}
 use Rattle.model.specs.declared.Verdict.{Verdict}
 use Rattle.model.specs.declared.Verdict.the-variants.{Granted, Refused}
 use Rattle.model.specs.declared.RunAnswer.the-variants.{NotRun}
+use Rattle.laws.specs.Demand2.{withMarks}
 
 -- ---- run
 module _ (p : State) (n : ℕ) (v : Verdict) (e : v ≡ runVerdict p n) where
@@ -52,10 +53,11 @@ module _ (p : State) (va : ℕ) (bytes : List ℕ) (v : Verdict) (e : v ≡ host
   unfolding writeCall
   write-refused r h = simp (← e, h)
 
-  pub write-done : v ≡ Granted → (m : Memory) → m ≡ bytesTo (p .machine .shape) (p .memory) va bytes
-      → record { verdict = verdictNumbers Granted; state = record { machine = p .machine; memory = m } } ≡ writeCall p va bytes
+  pub write-done : v ≡ Granted → (marks : ℕ) → marks ≡ marksFor (p .machine .shape) (p .memory .main) va (length bytes) (p .machine .book .marks)
+      → (m : Memory) → m ≡ bytesTo (p .machine .shape) (p .memory) va bytes
+      → record { verdict = verdictNumbers Granted; state = record { machine = withMarks (p .machine) marks; memory = m } } ≡ writeCall p va bytes
   unfolding writeCall
-  write-done h m q = simp (← e, h, q)
+  write-done h marks k m q = simp (← e, h, k, q)
 
 -- ---- page view
 module _ (p : State) (x : VirtualPage) (v : Verdict) (e : v ≡ viewVerdict p x) where

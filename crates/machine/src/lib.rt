@@ -1,6 +1,7 @@
 // The calls that a host makes on a machine: run, host read, host write, page view and reply. They ask nothing of their caller: each
 // takes the verdict on what it is handed, acts where nothing is refused, and names its complete outcome. `run_granted` is `run` behind
 // its verdict, for a caller that took it.
+use host::marks;
 use host::transfer;
 use host::view;
 use model::Handed;
@@ -15,7 +16,7 @@ ghost use Rattle.model.specs.Calls as calls;
 ghost use Rattle.model.specs.declared.Verdict.the-variants as verdict;
 ghost use Rattle.model.specs.Promises as promises;
 
-// "Run returns the stop, a detail, instructions finished, pages loaded."
+// "Run returns the stop, a detail, instructions finished, pages loaded."; "A run also reports pages copied back".
 pub fn run(m: Machine, main: &mut [u8], swap: &mut [u8], limit: u32) -> RunResult
     ensures { λ r. ⌜ promises.RunPromise (state m (now (main .entry)) (now (swap .entry))) limit r (now (main .exit)) (now (swap .exit)) ⌝ }
 {
@@ -53,6 +54,7 @@ pub fn run_granted(m: Machine, main: &mut [u8], swap: &mut [u8], limit: u32) -> 
             stop: stop,
             finished: e.finished,
             loads: e.loads,
+            copied: e.copied,
         },
     }
 }
@@ -83,9 +85,12 @@ pub fn host_write(m: Machine, main: &mut [u8], swap: &mut [u8], va: u32, from: &
             verdict: Verdict::Refused(r),
         },
         Verdict::Granted => {
+            let after = marks::marks_for(s, main, va, from.len(), m.book.marks);
+            let mut written = m;
+            written.book.marks = after;
             transfer::write_bytes(s, main, swap, va, from);
             Handed {
-                machine: m,
+                machine: written,
                 verdict: Verdict::Granted,
             }
         }

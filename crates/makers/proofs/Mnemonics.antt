@@ -9,8 +9,9 @@ use lib.ListN.{length}
 use Rattle.model.specs.Choice.{if_then_else_}
 use Rattle.model.specs.declared.Refusal.the-variants.{Mnemonic, Operand, Overflow}
 use Rattle.laws.proofs.Choice.{clash, chosen}
-use Rattle.text.specs.Reading.{isDigit, same}
-use Rattle.text.proofs.Words.{same-self, same-true}
+use Rattle.model.specs.Bytes.{same}
+use Rattle.text.specs.Reading.{isDigit}
+use Rattle.laws.proofs.Bytes.{same-equal, equal-same}
 use Rattle.text.specs.Reading as reading
 use Rattle.text.specs.declared.reading.Part.{Part}
 use Rattle.text.specs.declared.reading.Part.the-variants.{Number, NotNumber}
@@ -89,7 +90,7 @@ module _ (name : List ℕ) (made : Row → Parsed) (at : ℕ) where
   unfolding firstRow
   none-named [] f = refl
   none-named (r ∷ rs) f =
-      chosen (λ p. p ≡ Wrong Mnemonic at) (isNamed name r) (λ t. absurd (f r (List·Memᴰ·head refl) (same-true (r .name) name t)))
+      chosen (λ p. p ≡ Wrong Mnemonic at) (isNamed name r) (λ t. absurd (f r (List·Memᴰ·head refl) (same-equal (r .name) name t)))
       (λ _. none-named rs (λ row m. f row (List·Memᴰ·tail m)))
 
   module _ (other : (r : Row) → Otherwise (made r)) where
@@ -108,7 +109,7 @@ module _ (name : List ℕ) (made : Row → Parsed) (at : ℕ) where
         pick false t f ih = (
           ih f .0,
           λ row m q. ⊎-elim
-              (λ (g : row ≡ r). true≢false (sym (same-self name) ∙ ap (λ n. same n name) (sym q ∙ ap (λ x. x .name) g) ∙ t))
+              (λ (g : row ≡ r). true≢false (sym (equal-same name) ∙ ap (λ n. same n name) (sym q ∙ ap (λ x. x .name) g) ∙ t))
               (λ (k : List·Memᴰ row rs). ih f .1 row k q) (List·Memᴰ·cases-cons m),
         )
 

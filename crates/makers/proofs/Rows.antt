@@ -8,8 +8,9 @@ use lib.Dec.{leb, ltb, eqb}
 use lib.ListN.{length, getD}
 use Rattle.model.specs.Choice.{passes}
 use Rattle.laws.proofs.Choice.{and-left, and-right, pass, chosen}
-use Rattle.text.specs.Reading.{isDigit, same}
-use Rattle.text.proofs.Words.{same-self}
+use Rattle.model.specs.Bytes.{same}
+use Rattle.text.specs.Reading.{isDigit}
+use Rattle.laws.proofs.Bytes.{equal-same}
 use Rattle.notation.specs.Sums.{isBlank}
 use Rattle.notation.specs.Table.{Row, rows, spelled, firstRow}
 use Rattle.notation.specs.Line.{isNamed}
@@ -59,7 +60,7 @@ first-of P test made other (r ∷ rs) f g =
 module _ {A : Type 0} (made : Row → A) (other : A) where
   found-in : {r : Row} {rs : List Row} → List·Memᴰ r rs → distinct rs ≡ true → firstRow (isNamed (r .name)) made other rs ≡ made r
   unfolding firstRow distinct
-  found-in {r} (List·Memᴰ·head {x = q} {xs = rs} e) d = rw e (rw (same-self (q .name)))
+  found-in {r} (List·Memᴰ·head {x = q} {xs = rs} e) d = rw e (rw (equal-same (q .name)))
   found-in {r} (List·Memᴰ·tail {x = q} {xs = rs} m) d =
       let n : same (q .name) (r .name) ≡ false =
       not-true (same (q .name) (r .name))

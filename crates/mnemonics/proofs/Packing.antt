@@ -8,8 +8,8 @@ use borrow.Author.Tests.{eq-eqb, eqb-true}
 use lib.Dec.{eqb}
 use lib.ListN.{length, getD, drop, length-drop}
 use lib.Seq.{drop-cons, getD-drop}
-use Rattle.text.specs.Reading.{same}
-use Rattle.text.proofs.Words.{same-self, same-true}
+use Rattle.model.specs.Bytes.{same}
+use Rattle.laws.proofs.Bytes.{same-equal, equal-same}
 use Rattle.laws.proofs.Choice.{same-test}
 use Rattle.mnemonics.specs.Rows.{packed}
 
@@ -35,8 +35,8 @@ packed-same (x ∷ xs) (y ∷ ys) p q e =
 pub packed-test : (a b : List ℕ) → Bytes a → Bytes b → eqb (packed a) (packed b) ≡ same a b
 packed-test a b p q =
     same-test (eqb (packed a) (packed b)) (same a b)
-    (λ t. rw (packed-same a b p q (eqb-true (packed a) (packed b) t)) (same-self b))
-    (λ t. eq-eqb (packed a) (packed b) (ap packed (same-true a b t)))
+    (λ t. rw (packed-same a b p q (eqb-true (packed a) (packed b) t)) (equal-same b))
+    (λ t. eq-eqb (packed a) (packed b) (ap packed (same-equal a b t)))
 
 -- ---- one byte off the front
 module _ (l : List ℕ) (i : ℕ) (h : i < length l) where

@@ -6,7 +6,8 @@ use lib.Dec.{ltb, leb, eqb}
 use lib.ListN.{length, drop}
 use Rattle.model.specs.Choice.{if_then_else_}
 use Rattle.model.specs.declared.Refusal.the-variants.{Mnemonic, Operand, Overflow}
-use Rattle.text.specs.Reading.{front, isDigit, same}
+use Rattle.model.specs.Bytes.{same}
+use Rattle.text.specs.Reading.{front, isDigit}
 use Rattle.notation.specs.Table.{Row, rows, firstRow}
 use Rattle.notation.specs.Sums.{isBlank, byteAt, skipped, andThen, numberAt, sumAt}
 use Rattle.notation.specs.declared.Piece.{Piece}

@@ -10,7 +10,7 @@ use Rattle.model.specs.Bytes.{store}
 use Rattle.model.specs.Pages.{entryAt, pageOf, offset, mainAt, frameAt, swapOf, mainPage, withMainPage, swapPage, withSwapPage}
 use Rattle.model.specs.Table.{entry, withEntry, ppx, valid, putOut, broughtTo}
 use Rattle.model.specs.Translate.{has, translate}
-use Rattle.model.specs.Frames.{frame, pageIn, advanced}
+use Rattle.model.specs.Frames.{pageIn, marked, frame, advanced}
 use Rattle.model.specs.Handler.{out, into, loaded}
 use Rattle.model.specs.State.{Memory, memory}
 use Rattle.model.specs.declared.Shape.{Shape}
@@ -69,25 +69,34 @@ module _ (s : Shape) (b : FrameBook) (m : Memory) where
   unfolding vacated
   vacated-free h = simp (lt-ltb _ _ h)
 
-  pub vacated-full : (f : ℕ) → f ≡ frame (s .frames) b → s .frames ≤ b .used → (left : Memory) → left ≡ out s m f (pageIn b f) → left ≡ vacated s b m
+  pub vacated-full : (f : ℕ) → f ≡ frame (s .frames) b → s .frames ≤ b .used → (k : ℕ) → k ≡ b .marks → (c : Bool) → c ≡ marked k f
+      → (left : Memory) → left ≡ out s m c f (pageIn b f) → left ≡ vacated s b m
   unfolding vacated
-  vacated-full f e h left g = g ∙ ap (λ (k : ℕ). out s m k (pageIn b k)) e ∙ simp (le-ltb _ _ h)
+  vacated-full f e h k is c d left g =
+      g ∙ ap (λ t. out s m t f (pageIn b f)) (d ∙ ap (λ (n : ℕ). marked n f) is)
+      ∙ ap (λ (i : ℕ). out s m (marked (b .marks) i) i (pageIn b i)) e ∙ simp (le-ltb _ _ h)
 
   -- a load is both steps
   pub load-steps : (y : VirtualPage) → into s (vacated s b m) (frame (s .frames) b) y ≡ loaded s b m y
   unfolding vacated loaded
   load-steps y = steps (ltb (b .used) (s .frames)) (frame (s .frames) b)
     where
-      steps : (c : Bool) (f : ℕ) → into s (if c then m else out s m f (pageIn b f)) f y ≡ (if c then into s m f y else into s (out s m f (pageIn b f)) f y)
+      steps : (c : Bool) (f : ℕ) → into s (if c then m else out s m (marked (b .marks) f) f (pageIn b f)) f y
+          ≡ (if c then into s m f y else into s (out s m (marked (b .marks) f) f (pageIn b f)) f y)
       steps true f = refl
       steps false f = refl
 
 -- what the code leaves, call by call
+pub out-left : (s : Shape) (main swap : List ℕ) (c : Bool) (f : ℕ) (x : VirtualPage) → c ≡ false → (main′ swap′ : List ℕ) → swap′ ≡ swap
+    → main′ ≡ withEntry s main x (putOut (entry s main x)) → memory main′ swap′ ≡ out s (memory main swap) c f x
+unfolding out
+out-left s main swap c f x h main′ swap′ e g = rw h cc
+
 module _ (s : Shape) (main swap : List ℕ) (f : ℕ) (x : VirtualPage) (p : MainPage) (hp : p ≡ frameAt s f) (q : SwapPage) (hq : q ≡ swapOf s x) where
-  pub out-steps : (main′ swap′ : List ℕ) → swap′ ≡ withSwapPage swap q (mainPage main p) → main′ ≡ withEntry s main x (putOut (entry s main x))
-      → memory main′ swap′ ≡ out s (memory main swap) f x
+  pub out-copied : (c : Bool) → c ≡ true → (main′ swap′ : List ℕ) → swap′ ≡ withSwapPage swap q (mainPage main p)
+      → main′ ≡ withEntry s main x (putOut (entry s main x)) → memory main′ swap′ ≡ out s (memory main swap) c f x
   unfolding out
-  out-steps main′ swap′ e g = cc
+  out-copied c h main′ swap′ e g = rw h cc
 
   pub into-steps : (copied main′ : List ℕ) → copied ≡ withMainPage main p (swapPage swap q)
       → main′ ≡ withEntry s copied x (broughtTo p (entry s copied x)) → memory main′ swap ≡ into s (memory main swap) f x

@@ -1,7 +1,7 @@
 -- What the handler needs, and what it hands back.
 use Prim.Native.Nat.{ℕ, _≤_, _<_}
 use Rattle.model.specs.Choice.{if_then_else_}
-use Rattle.model.specs.Frames.{free, frame, pageIn, advanced}
+use Rattle.model.specs.Frames.{pageIn, marked, free, frame, advanced}
 use Rattle.model.specs.Handler.{out, loaded}
 use Rattle.model.specs.State.{Memory}
 use Rattle.model.specs.declared.Shape.{Shape}
@@ -19,7 +19,9 @@ pub record Ready (s : Shape) (b : FrameBook) (mainLength swapLength : ℕ) (y : 
 
 -- the memories once the frame that the next load takes is free
 unfoldable pub vacated : Shape → FrameBook → Memory → Memory
-vacated s b m = if free (s .frames) b then m else out s m (frame (s .frames) b) (pageIn b (frame (s .frames) b))
+vacated s b m =
+    if free (s .frames) b then m
+    else out s m (marked (b .marks) (frame (s .frames) b)) (frame (s .frames) b) (pageIn b (frame (s .frames) b))
 
 -- the book and the memories after page y is loaded
 pub record Stepped : Type 0 where

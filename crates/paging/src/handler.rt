@@ -1,6 +1,7 @@
 // The page handler: "The handler loads page y."
 use crate::pages;
 use crate::table;
+use book::marks;
 use model::FrameBook;
 use model::Shape;
 use model::VirtualPage;
@@ -12,14 +13,16 @@ ghost use Rattle.model.specs.Handler as handler;
 ghost use Rattle.laws.specs.Good.{Fit, SwapLong};
 ghost use Rattle.paging.specs.Ready as ready;
 
-// "the page x = B[f] is copied whole to swap, its entry gets ppx 0 and v 0"
-fn put_out(s: Shape, main: &mut [u8], swap: &mut [u8], f: u32, x: VirtualPage)
+// "the page x = B[f] is copied whole to swap, its entry gets ppx 0 and v 0"; but "An unmarked victim is not copied."
+fn put_out(s: Shape, main: &mut [u8], swap: &mut [u8], copied: bool, f: u32, x: VirtualPage)
     requires { ⌜ Fit s (length (now main)) × SwapLong s (length (now swap)) × (f < s .frames) × (x .0 < s .ptl) ⌝ }
-    ensures { λ _. ⌜ memory (now (main .exit)) (now (swap .exit)) ≡ handler.out s (memory (now (main .entry)) (now (swap .entry))) f x ⌝ }
+    ensures { λ _. ⌜ memory (now (main .exit)) (now (swap .exit)) ≡ handler.out s (memory (now (main .entry)) (now (swap .entry))) copied f x ⌝ }
 {
-    let from = pages::frame_at(s, f);
-    let to = pages::swap_of(s, x);
-    pages::copy_out(main, from, swap, to);
+    if copied {
+        let from = pages::frame_at(s, f);
+        let to = pages::swap_of(s, x);
+        pages::copy_out(main, from, swap, to);
+    }
     table::put_out_entry(s, main, x);
 }
 
@@ -45,7 +48,7 @@ fn vacate(s: Shape, b: FrameBook, main: &mut [u8], swap: &mut [u8], y: VirtualPa
     let f = book::frame(s.frames, b);
     let i = f as usize;
     let x = b.held[i];
-    put_out(s, main, swap, f, x);
+    put_out(s, main, swap, marks::marked(b.marks, f), f, x);
 }
 
 // One step: "One such step leaves the frame book advanced by exactly one load."

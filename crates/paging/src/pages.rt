@@ -6,6 +6,7 @@ use model::VirtualPage;
 ghost use mathlib.Core.Path.{_≡_};
 ghost use Prim.Native.Nat.{_+_, _*_, _^_, _<_, _≤_};
 ghost use lib.ListN.{length};
+ghost use Rattle.model.specs.Bytes.{same};
 ghost use Rattle.model.specs.Pages as rule;
 ghost use Rattle.model.specs.Table as entries;
 
@@ -49,6 +50,14 @@ pub fn frame_at(s: Shape, f: u32) -> MainPage
     ensures { λ r. ⌜ r ≡ rule.frameAt s f ⌝ }
 {
     MainPage(s.abase + f)
+}
+
+// The frame at main page p.
+pub fn frame_in(s: Shape, p: MainPage) -> u32
+    requires { ⌜ s .abase ≤ p .0 ⌝ }
+    ensures { λ r. ⌜ r ≡ rule.frameIn s p ⌝ }
+{
+    p.0 - s.abase
 }
 
 // "sbase counts pages".
@@ -100,4 +109,12 @@ pub(crate) fn copy_in(swap: &[u8], from: SwapPage, main: &mut [u8], to: MainPage
     ensures { λ _. ⌜ now (main .exit) ≡ rule.withMainPage (now (main .entry)) to (rule.swapPage (now (swap .entry)) from) ⌝ }
 {
     words::copy_page(swap, from.0 as usize, main, to.0 as usize);
+}
+
+// Whether a page of main memory and a page of swap are equal.
+pub fn same_pages(main: &[u8], p: MainPage, swap: &[u8], q: SwapPage) -> bool
+    requires { ⌜ (rule.mainAt p 4096 ≤ length (now main)) × (rule.swapAt q 4096 ≤ length (now swap)) ⌝ }
+    ensures { λ r. ⌜ r ≡ same (rule.mainPage (now (main .entry)) p) (rule.swapPage (now (swap .entry)) q) ⌝ }
+{
+    words::same_page(main, p.0 as usize, swap, q.0 as usize)
 }

@@ -35,9 +35,9 @@ module _ (a : RunAnswer) (p : State) (o : RunOutcome) (answers : runOutcome a p 
   pub run-refused : (r : Refusal) → a ≡ NotRun r → refusedLine (refusalNumber r) ≡ runLines o
   run-refused r e = rw (← answers, e, some-number r)
 
-  pub run-printed : (j k : ℕ) (stop : Stop) (finished loads : ℕ) → j ≡ stopNumber stop → k ≡ stopDetail stop → a ≡ Ran stop finished loads
+  pub run-printed : (j k : ℕ) (stop : Stop) (finished loads copied : ℕ) → j ≡ stopNumber stop → k ≡ stopDetail stop → a ≡ Ran stop finished loads copied
       → fourLines (numbersOf j k finished loads) (p .machine .pcs .dpc) ≡ runLines o
-  run-printed j k stop finished loads h i e = rw (← answers, e, h, i)
+  run-printed j k stop finished loads copied h i e = rw (← answers, e, h, i)
 
 pub run-left : {o o′ : RunOutcome} → o ≡ o′ → o .state .memory ≡ o′ .state .memory
 run-left e = ap (λ o. o .state .memory) e

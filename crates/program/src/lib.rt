@@ -39,6 +39,7 @@ fn run_and_print(m: Machine, main: &mut [u8], swap: &mut [u8], out: &mut [u8]) -
             stop,
             finished,
             loads,
+            copied: _,
         } => lines::four_lines(
             out,
             0,

@@ -30,16 +30,16 @@ pub virtual-number : (b : List VirtualPage) → pagesOf (numbersOf b) ≡ b
 virtual-number [] = refl
 virtual-number (x ∷ xs) = ap (λ z. x ∷ z) (virtual-number xs)
 
-split : (l : List ℕ) → length l ≡ recordLength → take heldAt l ++ part heldAt 32 l ++ part gprAt 32 l ++ part dpcAt 2 l ≡ l
+split : (l : List ℕ) → length l ≡ recordLength → take heldAt l ++ part heldAt 32 l ++ part gprAt 32 l ++ part dpcAt 3 l ≡ l
 split l e =
-    ap (λ z. z ++ part gprAt 32 l ++ part dpcAt 2 l) (sym (take-add heldAt 32 l)) ∙ ap (λ z. z ++ part dpcAt 2 l) (sym (take-add gprAt 32 l))
-    ∙ sym (take-add dpcAt 2 l) ∙ take-all recordLength l (omega arith)
+    ap (λ z. z ++ part gprAt 32 l ++ part dpcAt 3 l) (sym (take-add heldAt 32 l)) ∙ ap (λ z. z ++ part dpcAt 3 l) (sym (take-add gprAt 32 l))
+    ∙ sym (take-add dpcAt 3 l) ∙ take-all recordLength l (omega arith)
 
 pub words-machine : (l : List ℕ) → length l ≡ recordLength → wordsOf (machineOf l) ≡ l
 unfolding machineOf wordsOf
 words-machine l e =
-    ap (λ z. each heldAt 0 l ++ z ++ part gprAt 32 l ++ each 2 dpcAt l) (number-virtual (part heldAt 32 l))
-    ∙ ap₂ (λ y z. y ++ part heldAt 32 l ++ part gprAt 32 l ++ z) (each-part heldAt 0 l (omega arith)) (each-part 2 dpcAt l (omega arith))
+    ap (λ z. each heldAt 0 l ++ z ++ part gprAt 32 l ++ each 3 dpcAt l) (number-virtual (part heldAt 32 l))
+    ∙ ap₂ (λ y z. y ++ part heldAt 32 l ++ part gprAt 32 l ++ z) (each-part heldAt 0 l (omega arith)) (each-part 3 dpcAt l (omega arith))
     ∙ split l e
 
 -- a record read from its words has its array
@@ -59,7 +59,7 @@ module _ (m : Machine) (eb : length (m .book .held) ≡ 32) (eg : length (m .gpr
   numbers = numbersOf (m .book .held)
 
   abbrev tail : List ℕ
-  tail = tailOf (m .pcs)
+  tail = tailOf (m .pcs) (m .book .marks)
 
   long : length numbers ≡ 32
   long = length-map (m .book .held) (λ (p : VirtualPage). p .0) ∙ eb
@@ -68,7 +68,7 @@ module _ (m : Machine) (eb : length (m .book .held) ≡ 32) (eg : length (m .gpr
   unfolding machineOf wordsOf
   machine-words =
       let at = tail-at head numbers (m .gpr) tail refl long eg in
-      simp (part-held head numbers (m .gpr) tail refl long eg, part-gpr head numbers (m .gpr) tail refl long eg, at 0, at 1, virtual-number (m .book .held))
+      simp (part-held head numbers (m .gpr) tail refl long eg, part-gpr head numbers (m .gpr) tail refl long eg, at 0, at 1, at 2, virtual-number (m .book .held))
 
   length-words : length (wordsOf m) ≡ recordLength
   unfolding wordsOf

@@ -1,5 +1,5 @@
--- The record as words, in the order P, a, abase, ptl, pto, sbase, b, hand, B[0..31], GPR 0 to 31, DPC, PC': the place of each, the
--- record that words say, and the words of a record.
+-- The record as words, in the order P, a, abase, ptl, pto, sbase, b, hand, B[0..31], GPR 0 to 31, DPC, PC', marks: the place of each,
+-- the record that words say, and the words of a record.
 use mathlib.Core.Bool.{Bool}
 use mathlib.Core.List.{List, [], _∷_, _++_, map}
 use Prim.Native.Nat.{ℕ, _-_}
@@ -48,8 +48,11 @@ dpcAt = 72
 abbrev pub nextAt : ℕ
 nextAt = 73
 
+abbrev pub marksAt : ℕ
+marksAt = 74
+
 abbrev pub recordLength : ℕ
-recordLength = 74
+recordLength = 75
 
 abbrev pub lastWord : ℕ
 lastWord = recordLength - 1
@@ -81,7 +84,7 @@ machineOf l = record {
     pto = getD l ptoAt 0;
     sbase = getD l sbaseAt 0;
   };
-  book = record { used = getD l usedAt 0; hand = getD l handAt 0; held = pagesOf (part heldAt 32 l) };
+  book = record { used = getD l usedAt 0; hand = getD l handAt 0; held = pagesOf (part heldAt 32 l); marks = getD l marksAt 0 };
   gpr = part gprAt 32 l;
   pcs = record { dpc = getD l dpcAt 0; next = getD l nextAt 0 };
 }
@@ -91,11 +94,11 @@ machineOf l = record {
 abbrev pub headOf : Shape → ℕ → ℕ → List ℕ
 headOf s used hand = s .pages ∷ s .frames ∷ s .abase ∷ s .ptl ∷ s .pto ∷ s .sbase ∷ used ∷ hand ∷ []
 
-abbrev pub tailOf : Pcs → List ℕ
-tailOf p = p .dpc ∷ p .next ∷ []
+abbrev pub tailOf : Pcs → ℕ → List ℕ
+tailOf p marks = p .dpc ∷ p .next ∷ marks ∷ []
 
 unfoldable pub wordsOf : Machine → List ℕ
-wordsOf m = headOf (m .shape) (m .book .used) (m .book .hand) ++ numbersOf (m .book .held) ++ m .gpr ++ tailOf (m .pcs)
+wordsOf m = headOf (m .shape) (m .book .used) (m .book .hand) ++ numbersOf (m .book .held) ++ m .gpr ++ tailOf (m .pcs) (m .book .marks)
 
 -- the record with register i set to v
 abbrev pub withRegister : Machine → ℕ → ℕ → Machine

@@ -38,7 +38,9 @@ const DPC: usize = 72;
 
 const NEXT: usize = 73;
 
-pub const LENGTH: usize = 74;
+const MARKS: usize = 74;
+
+pub const LENGTH: usize = 75;
 
 // The 32 words from word `at` on.
 fn part(from: &[u32], at: usize) -> [u32; 32]
@@ -109,6 +111,7 @@ pub fn machine_of(from: &[u32]) -> Machine
             used: from[USED],
             hand: from[HAND],
             held: held,
+            marks: from[MARKS],
         },
         gpr: gpr,
         pcs: Pcs {
@@ -154,7 +157,7 @@ pub fn put_machine(to: &mut [u32], m: Machine)
         b.used,
         b.hand,
     ];
-    let tail = [p.dpc, p.next];
+    let tail = [p.dpc, p.next, b.marks];
     lay(to, head, numbers_of(held), gpr, tail);
 }
 

@@ -9,7 +9,8 @@ use lib.ListN.{length, getD, take}
 use lib.Seq.{take-length}
 use borrow.Author.Tests.{le-leb, lt-leb, eq-eqb, ne-eqb}
 use Rattle.bytes.specs.Bytes.{slice, indexOf}
-use Rattle.text.specs.Reading.{isSpace, same, numberAt, hexEnd}
+use Rattle.model.specs.Bytes.{same}
+use Rattle.text.specs.Reading.{isSpace, numberAt, hexEnd}
 use Rattle.text.specs.declared.reading.Part.{Part}
 use Rattle.text.specs.declared.reading.Part.the-variants.{Number, NotNumber}
 use Rattle.script.specs.Table.{callRow, changeRow, Named, named, firstFit, wordOf}

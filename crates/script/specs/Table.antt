@@ -3,7 +3,7 @@ use mathlib.Core.List.{List, [], _∷_}
 use Prim.Native.Nat.{ℕ}
 use Rattle.model.specs.Choice.{if_then_else_}
 use Rattle.record.specs.Words.{lastWord}
-use Rattle.text.specs.Reading.{same}
+use Rattle.model.specs.Bytes.{same}
 use Rattle.script.specs.Vocabulary.{runWord, readWord, writeWord, viewWord, replyWord, registersWord, framesWord, sumWord, mainWord, swapWord, recordWord, lendWord, spareWord}
 use Rattle.script.specs.declared.Call.{Call}
 use Rattle.script.specs.declared.Call.the-variants.{Run, Read, Write, View, Reply, Registers, Frames, Sum}

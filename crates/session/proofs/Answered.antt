@@ -31,19 +31,19 @@ module _ (v : Verdict) (k : VerdictNumbers) (e : verdictNumbers v ≡ k) (line :
   pub verdict-granted : v ≡ Granted → line ≡ orRefused k line
   verdict-granted g = ap (λ (j : VerdictNumbers). orRefused j line) (sym (ap verdictNumbers g) ∙ e)
 
-abbrev pub line : ℕ → ℕ → ℕ → ℕ → List ℕ
-line stop detail finished loads = numbersLine runWord (stop ∷ detail ∷ finished ∷ loads ∷ [])
+abbrev pub line : ℕ → ℕ → ℕ → ℕ → ℕ → List ℕ
+line stop detail finished loads copied = numbersLine runWord (stop ∷ detail ∷ finished ∷ loads ∷ copied ∷ [])
 
 module _ (a : RunAnswer) (p : State) (o : RunOutcome) (e : runOutcome a p ≡ o) where
   pub run-refused : {r : Refusal} {n : ℕ} → a ≡ NotRun r → n ≡ refusalNumber r → refusedLine n ≡ runText (o .numbers)
   run-refused {r} {n} g h =
-      ap refusedLine h ∙ refused-text r (line 0 0 0 0)
+      ap refusedLine h ∙ refused-text r (line 0 0 0 0 0)
       ∙ ap (λ (b : RunAnswer). runText (runNumbers b)) (sym g) ∙ ap (λ (x : RunOutcome). runText (x .numbers)) e
 
-  pub run-ran : {s : Stop} {f l stop detail : ℕ} → a ≡ Ran s f l → stop ≡ stopNumber s → detail ≡ stopDetail s
-      → line stop detail f l ≡ runText (o .numbers)
-  run-ran {s} {f} {l} {stop} {detail} g h k =
-      ap (λ (n : ℕ). line n detail f l) h ∙ ap (λ (n : ℕ). line (stopNumber s) n f l) k
+  pub run-ran : {s : Stop} {f l k stop detail : ℕ} → a ≡ Ran s f l k → stop ≡ stopNumber s → detail ≡ stopDetail s
+      → line stop detail f l k ≡ runText (o .numbers)
+  run-ran {s} {f} {l} {k} {stop} {detail} g h d =
+      ap (λ (n : ℕ). line n detail f l k) h ∙ ap (λ (n : ℕ). line (stopNumber s) n f l k) d
       ∙ ap (λ (b : RunAnswer). runText (runNumbers b)) (sym g) ∙ ap (λ (x : RunOutcome). runText (x .numbers)) e
 
 -- the same answer, said otherwise

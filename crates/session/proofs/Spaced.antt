@@ -28,3 +28,10 @@ pub grouped : (word first more : List ℕ) → word ++ (spacedAll first ++ (spac
 grouped word first more =
     ap (λ (l : List ℕ). word ++ l) (sym (append-assoc (spacedAll first) (spacedAll more) newline)
     ∙ ap (λ (l : List ℕ). l ++ newline) (sym (spaced-append first more)))
+
+-- and one more behind them
+pub grouped-last : (word first more : List ℕ) (x : ℕ)
+    → word ++ (spacedAll first ++ (spacedAll more ++ (spaced x ++ newline))) ≡ numbersLine word ((first ++ more) ++ (x ∷ []))
+grouped-last word first more x =
+    ap (λ (l : List ℕ). word ++ (spacedAll first ++ l)) (ap (λ (l : List ℕ). spacedAll more ++ (l ++ newline)) (sym (spaced-one x)) ∙ grouped [] more (x ∷ []))
+    ∙ grouped word first (more ++ (x ∷ [])) ∙ ap (numbersLine word) (sym (append-assoc first more (x ∷ [])))

@@ -9,7 +9,7 @@ use lib.Dec.{T, eqb}
 use lib.ListN.{length, take}
 use Rattle.laws.proofs.Choice.{chosen, and-left, and-right}
 use Rattle.bytes.specs.Bytes.{slice, indexOf}
-use Rattle.text.specs.Reading.{same}
+use Rattle.model.specs.Bytes.{same}
 use Rattle.script.specs.Vocabulary.{runWord, readWord, writeWord, viewWord, replyWord, registersWord, framesWord, sumWord, mainWord, swapWord, recordWord, lendWord, spareWord}
 use Rattle.script.specs.Table.{callRow, changeRow, firstFit, wordOf}
 use Rattle.script.specs.Parts.{partsOf}

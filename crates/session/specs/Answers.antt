@@ -20,9 +20,9 @@ use Rattle.session.specs.Fnv.{fnv1a}
 use Rattle.session.specs.Lines.{wordLine, hexLine, numbersLine}
 
 -- ---- the lines
--- `run STOP DETAIL FINISHED LOADS`
+-- `run STOP DETAIL FINISHED LOADS COPIED`
 abbrev pub runText : RunNumbers → List ℕ
-runText r = orRefused (r .verdict) (numbersLine runWord (r .stop ∷ r .detail ∷ r .finished ∷ r .loads ∷ []))
+runText r = orRefused (r .verdict) (numbersLine runWord (r .stop ∷ r .detail ∷ r .finished ∷ r .loads ∷ r .copied ∷ []))
 
 -- `read HEX`, `view HEX`
 abbrev pub readText : ReadOutcome → List ℕ
@@ -42,9 +42,9 @@ replyText o = orRefused (o .verdict) (wordLine replyWord)
 abbrev pub registersText : Machine → List ℕ
 registersText m = numbersLine registersWord (m .pcs .dpc ∷ m .pcs .next ∷ m .gpr)
 
--- `frames USED HAND B0 .. B31`
+-- `frames USED HAND B0 .. B31 MARKS`
 abbrev pub framesText : FrameBook → List ℕ
-framesText b = numbersLine framesWord (b .used ∷ b .hand ∷ numbersOf (b .held))
+framesText b = numbersLine framesWord ((b .used ∷ b .hand ∷ numbersOf (b .held)) ++ (b .marks ∷ []))
 
 -- `sum M S`
 abbrev pub sumText : List ℕ → List ℕ → List ℕ

@@ -58,10 +58,11 @@ fn run(m: Machine, main: &mut [u8], swap: &mut [u8], limit: u32, out: &mut [u8],
             stop,
             finished,
             loads,
+            copied,
         } => {
             let number = answers::stop_number(stop);
             let why = [number, answers::stop_detail(stop)];
-            let counts = [finished, loads];
+            let counts = [finished, loads, copied];
             left(after, lines::numbers_line(out, at, b"run", &why, &counts))
         }
     }
@@ -143,7 +144,10 @@ fn frames(m: Machine, out: &mut [u8], at: usize) -> Done
     let first = [m.book.used, m.book.hand];
     let held = m.book.held;
     let numbers = record::numbers_of(held);
-    left(m, lines::numbers_line(out, at, b"frames", &first, &numbers))
+    left(
+        m,
+        lines::frames_line(out, at, &first, &numbers, m.book.marks),
+    )
 }
 
 // `sum`, of the lent bytes

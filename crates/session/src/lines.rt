@@ -3,9 +3,10 @@ use text::lines::put_spaced;
 use text::put;
 use text::put_hex;
 ghost use Prim.Native.Nat.{_+_, _*_, _≤_};
-ghost use mathlib.Core.List.{_++_};
+ghost use mathlib.Core.List.{[], _∷_, _++_};
 ghost use lib.ListN.{length};
 ghost use Rattle.text.specs.Text.{Appended};
+ghost use Rattle.script.specs.Vocabulary.{framesWord};
 ghost use Rattle.session.specs.Lines as lines;
 
 // A word, and bytes in hex behind its space: where there are none, the word alone.
@@ -48,5 +49,24 @@ pub(crate) fn numbers_line(
     let to = put(out, at, word);
     let next = put_numbers(out, to, first);
     let end = put_numbers(out, next, more);
+    put(out, end, b"\n")
+}
+
+// `frames`, its first numbers, more of them, and the marks.
+pub(crate) fn frames_line(
+    out: &mut [u8],
+    at: usize,
+    first: &[u32],
+    held: &[u32],
+    marks: u32,
+) -> usize
+    requires { ⌜ at + 11 * length (now first) + 11 * length (now held) + 18 ≤ length (now out) ⌝ }
+    ensures { λ r. ⌜ Appended (now (out .entry)) at (now (out .exit)) r
+        (lines.numbersLine framesWord ((now (first .entry) ++ now (held .entry)) ++ (marks ∷ []))) ⌝ }
+{
+    let to = put(out, at, b"frames");
+    let next = put_numbers(out, to, first);
+    let last = put_numbers(out, next, held);
+    let end = put_spaced(out, last, marks);
     put(out, end, b"\n")
 }

@@ -20,7 +20,7 @@ use Rattle.book.proofs.Ways.{page-number}
 
 module _ (s : Shape) (used : ℕ) (held main : List ℕ) where
   abbrev b : FrameBook
-  b = bookOf used 0 held
+  b = bookOf used 0 held 0
 
   -- both tests of the pages in use
   abbrev Both : Bool

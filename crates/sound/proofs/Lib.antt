@@ -2,4 +2,5 @@
 pub mod Count
 pub mod Frame
 pub mod Loops
+pub mod Pages
 pub mod Rows

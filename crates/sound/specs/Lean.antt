@@ -9,7 +9,7 @@ use Rattle.sound.specs.declared.Lean.{Lean}
 abbrev pub whole : Lean → List ℕ → Machine
 whole l held = record {
   shape = l .shape;
-  book = bookOf (l .used) (l .hand) held;
+  book = bookOf (l .used) (l .hand) held (l .marks);
   gpr = l .zero ∷ [];
   pcs = record { dpc = 0; next = 0 };
 }

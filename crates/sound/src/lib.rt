@@ -1,4 +1,5 @@
 // Refusal 2, "the machine is not sound": the tests that it is.
+mod clean;
 mod seats;
 
 use model::Machine;
@@ -6,7 +7,8 @@ use model::Shape;
 ghost use mathlib.Core.Path.{_≡_};
 ghost use lib.ListN.{length, getD};
 ghost use Rattle.model.specs.Sound as soundness;
-ghost use Rattle.laws.specs.Good.{Fit};
+ghost use Rattle.model.specs.State.{memory};
+ghost use Rattle.laws.specs.Good.{Fit, SwapLong};
 ghost use Rattle.sound.specs.Lean.{whole};
 
 // A machine as far as soundness asks of it, but for B, which is lent beside it as words: so no array is copied.
@@ -14,11 +16,12 @@ pub struct Lean {
     pub shape: Shape,
     pub used: u32,
     pub hand: u32,
+    pub marks: u32,
     pub zero: u32,
 }
 
 pub fn lean_of(m: Machine) -> Lean
-    ensures { λ r. ⌜ r ≡ record { shape = m .shape; used = m .book .used; hand = m .book .hand; zero = getD (m .gpr) 0 0 } ⌝ }
+    ensures { λ r. ⌜ r ≡ record { shape = m .shape; used = m .book .used; hand = m .book .hand; marks = m .book .marks; zero = getD (m .gpr) 0 0 } ⌝ }
 {
     let s = m.shape;
     let b = m.book;
@@ -26,15 +29,16 @@ pub fn lean_of(m: Machine) -> Lean
         shape: s,
         used: b.used,
         hand: b.hand,
+        marks: b.marks,
         zero: m.gpr[0],
     }
 }
 
 // "A machine is sound when": each test for a machine that passed those before it. As each B[i] is seated and all are different, no
-// other entry is valid exactly where there are b valid ones.
-pub fn sound(l: Lean, held: &[u32], main: &[u8]) -> bool
-    requires { ⌜ Fit (l .shape) (length (now main)) × (length (now held) ≡ 32) ⌝ }
-    ensures { λ r. ⌜ r ≡ soundness.sound (whole l (now (held .entry))) (now (main .entry)) ⌝ }
+// other entry is valid exactly where there are b valid ones. The pages are compared last, which takes the most time.
+pub fn sound(l: Lean, held: &[u32], main: &[u8], swap: &[u8]) -> bool
+    requires { ⌜ Fit (l .shape) (length (now main)) × SwapLong (l .shape) (length (now swap)) × (length (now held) ≡ 32) ⌝ }
+    ensures { λ r. ⌜ r ≡ soundness.sound (whole l (now (held .entry))) (memory (now (main .entry)) (now (swap .entry))) ⌝ }
 {
     let s = l.shape;
     if l.zero != 0 {
@@ -55,5 +59,11 @@ pub fn sound(l: Lean, held: &[u32], main: &[u8]) -> bool
     if seats::valid_entries(s, main) != l.used {
         return false;
     }
-    book::check::hand_right(s.frames, l.used, l.hand)
+    if !book::check::hand_right(s.frames, l.used, l.hand) {
+        return false;
+    }
+    if !book::check::marks_right(l.used, l.marks) {
+        return false;
+    }
+    clean::frames_clean(s, l.used, l.marks, held, main, swap)
 }

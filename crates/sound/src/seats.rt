@@ -14,8 +14,8 @@ ghost use Rattle.sound.specs.Count.{validBelow};
 // "B[0..b−1] are below ptl", "the entry of B[i] is valid with ppx abase+i"
 pub(crate) fn frames_seated(s: Shape, used: u32, held: &[u32], main: &[u8]) -> bool
     requires { ⌜ Fit s (length (now main)) × (used ≤ 32) × (length (now held) ≡ 32) ⌝ }
-    ensures { λ r. ⌜ ((hand : ℕ) → r ≡ (tests.heldInTable (s .ptl) (bookOf used hand (now (held .entry)))
-        && tests.framesSeated s (bookOf used hand (now (held .entry))) (now (main .entry)))) ⌝ }
+    ensures { λ r. ⌜ ((hand marks : ℕ) → r ≡ (tests.heldInTable (s .ptl) (bookOf used hand (now (held .entry)) marks)
+        && tests.framesSeated s (bookOf used hand (now (held .entry)) marks) (now (main .entry)))) ⌝ }
 {
     let mut f: u32 = 0;
     while f < used {

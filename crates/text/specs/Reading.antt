@@ -1,6 +1,6 @@
--- What is read in a text: whether two words are the same, a number in decimal, the end of a row of hex digits, bytes in pairs of hex
--- digits. Places count from 0, columns from 1.
-use mathlib.Core.Bool.{Bool, true, false, _&&_, _||_}
+-- What is read in a text: a number in decimal, the end of a row of hex digits, bytes in pairs of hex digits. Places count from 0,
+-- columns from 1. Whether two words are the same is `same` of the model's Bytes.
+use mathlib.Core.Bool.{Bool, _&&_, _||_}
 use mathlib.Core.List.{List, [], _∷_}
 use Prim.Native.Nat.{ℕ, _+_, _-_, _*_}
 use lib.Dec.{eqb, leb}
@@ -8,12 +8,6 @@ use lib.ListN.{length, drop}
 use Rattle.model.specs.Choice.{if_then_else_}
 use Rattle.text.specs.declared.reading.Part.{Part}
 use Rattle.text.specs.declared.reading.Part.the-variants.{Number, NotNumber}
-
-unfoldable pub same : List ℕ → List ℕ → Bool
-same [] [] = true
-same [] (y ∷ ys) = false
-same (x ∷ xs) [] = false
-same (x ∷ xs) (y ∷ ys) = eqb x y && same xs ys
 
 -- the longest front of the list whose bytes all pass the test
 unfoldable pub front : (ℕ → Bool) → List ℕ → List ℕ

@@ -24,6 +24,7 @@ unfoldable pub hexOf : List ℕ → List ℕ
 hexOf [] = []
 hexOf (b ∷ bs) = hexDigit (b / 16) ∷ hexDigit (b % 16) ∷ hexOf bs
 
--- the numbers of a run that is not refused
+-- the numbers of a run that is not refused, as far as the four lines say them: no line has the pages copied back
 abbrev pub numbersOf : ℕ → ℕ → ℕ → ℕ → RunNumbers
-numbersOf stop detail finished loads = record { verdict = verdictNumbers Granted; stop = stop; detail = detail; finished = finished; loads = loads }
+numbersOf stop detail finished loads =
+    record { verdict = verdictNumbers Granted; stop = stop; detail = detail; finished = finished; loads = loads; copied = 0 }

@@ -9,7 +9,8 @@ use Rattle.model.specs.Choice.{passes}
 use Rattle.model.specs.Answers.{refusalNumber}
 use Rattle.model.specs.Console.{digits}
 use Rattle.text.specs.Reading as reading
-use Rattle.text.specs.Reading.{same, front, isDigit, decimal, numberOf}
+use Rattle.model.specs.Bytes.{same}
+use Rattle.text.specs.Reading.{front, isDigit, decimal, numberOf}
 use Rattle.notation.specs.Table.{spelled, rows, firstRow}
 use Rattle.notation.specs.Sums.{isBlank, skipped, numberAt, kept, readBy, readIn, readAt}
 use Rattle.notation.specs.Line.{fitted, readPiece, ended, readPieces, instructionAt, lineAt, lineOf}

@@ -21,6 +21,7 @@ fn run_number(r: RunResult) -> u32 {
             stop: _,
             finished: _,
             loads: _,
+            copied: _,
         } => 0,
         RunAnswer::NotRun(k) => answers::refusal_number(k),
     }
@@ -34,6 +35,7 @@ fn trapped(r: RunResult, trap: u32, finished_by: u32, loaded: u32) -> bool {
             stop,
             finished,
             loads,
+            copied: _,
         } => match stop {
             Stop::Trap(n) => n == trap && finished == finished_by && loads == loaded,
             _ => false,

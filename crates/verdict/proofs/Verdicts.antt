@@ -16,7 +16,7 @@ use Rattle.model.specs.declared.Refusal.{Refusal}
 use Rattle.model.specs.declared.Refusal.the-variants.{Bound, Unsound, Rights, TooMuch}
 use Rattle.model.specs.declared.Verdict.{Verdict}
 use Rattle.model.specs.declared.Verdict.the-variants.{Granted, Refused}
-use Rattle.laws.specs.Good.{Fit}
+use Rattle.laws.specs.Good.{Fit, SwapLong}
 use Rattle.laws.proofs.Sound.{fit-of}
 use Rattle.laws.proofs.Granted.{machine-granted, refused-first}
 use Rattle.record.specs.Words.{numbersOf}
@@ -32,30 +32,30 @@ module _ (m : Machine) (main swap : List ℕ) (f : Bool) (e : f ≡ fits (m .sha
   bound n = simp (← e, not-true f n)
 
   module _ (y : not f ≡ false) where
-    pub fitted : Fit (m .shape) (length main)
-    fitted = fit-of (m .shape) (memory main swap) (sym e ∙ not-false f y) .0
+    pub fitted : Fit (m .shape) (length main) × SwapLong (m .shape) (length swap)
+    fitted = fit-of (m .shape) (memory main swap) (sym e ∙ not-false f y)
 
-    pub by-sound : (q : Bool) → q ≡ sound m main → unless q Unsound Granted ≡ machineVerdict (state m main swap) Granted
+    pub by-sound : (q : Bool) → q ≡ sound m (memory main swap) → unless q Unsound Granted ≡ machineVerdict (state m main swap) Granted
     unfolding machineVerdict
     by-sound q g = simp (← e, ← g, not-false f y)
 
 -- ---- the machine m, handed in parts: l and the words of B
-module _ (m : Machine) (main swap : List ℕ) (l : Lean) (hl : l ≡ record { shape = m .shape; used = m .book .used; hand = m .book .hand; zero = getD (m .gpr) 0 0 })
+module _ (m : Machine) (main swap : List ℕ) (l : Lean) (hl : l ≡ record { shape = m .shape; used = m .book .used; hand = m .book .hand; marks = m .book .marks; zero = getD (m .gpr) 0 0 })
     (held : List ℕ) (hh : held ≡ numbersOf (m .book .held)) where
-  same-book : bookOf (m .book .used) (m .book .hand) (numbersOf (m .book .held)) ≡ m .book
-  same-book = ap (λ h. record { used = m .book .used; hand = m .book .hand; held = h }) (virtual-number (m .book .held))
+  same-book : bookOf (m .book .used) (m .book .hand) (numbersOf (m .book .held)) (m .book .marks) ≡ m .book
+  same-book = ap (λ h. record { used = m .book .used; hand = m .book .hand; held = h; marks = m .book .marks }) (virtual-number (m .book .held))
 
   pub of-whole : (v : Verdict) → v ≡ machineVerdict (state (whole l held) main swap) Granted → v ≡ machineVerdict (state m main swap) Granted
   unfolding machineVerdict sound
   of-whole v e =
       e ∙ rw (hl, hh) (ap (λ b. unless (fits (m .shape) (memory main swap)) Bound
-      (unless (passes (eqb (getD (m .gpr) 0 0) 0 ∷ bookTests (m .shape) b main)) Unsound Granted)) same-book)
+      (unless (passes (eqb (getD (m .gpr) 0 0) 0 ∷ bookTests (m .shape) b (memory main swap))) Unsound Granted)) same-book)
 
 -- ---- the tests after them, by the verdict v on the machine
 module _ (p : State) (v : Verdict) (e : v ≡ machineVerdict p Granted) where
   pub still-refused : (r : Refusal) → v ≡ Refused r → (after : Verdict) → Refused r ≡ machineVerdict p after
   unfolding machineVerdict
-  still-refused r h after = sym (refused-first (fits (p .machine .shape) (p .memory)) (sound (p .machine) (p .memory .main)) Bound Unsound r after (sym e ∙ h))
+  still-refused r h after = sym (refused-first (fits (p .machine .shape) (p .memory)) (sound (p .machine) (p .memory)) Bound Unsound r after (sym e ∙ h))
 
   module _ (h : v ≡ Granted) where
     pub onward : (after : Verdict) → after ≡ machineVerdict p after

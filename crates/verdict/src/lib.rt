@@ -45,7 +45,7 @@ fn machine_verdict(l: Lean, held: &[u32], main: &[u8], swap: &[u8]) -> Verdict
     if !shape::fits(s, main, swap) {
         return Verdict::Refused(Refusal::Bound);
     }
-    unless(sound::sound(l, held, main), Refusal::Unsound)
+    unless(sound::sound(l, held, main, swap), Refusal::Unsound)
 }
 
 // Refusal 4 of a run: "0 to 1,000,000 instructions". Its last test is written out because the run's loop is inlined behind it, and

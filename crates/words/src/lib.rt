@@ -2,6 +2,7 @@
 ghost use mathlib.Core.Path.{_≡_};
 ghost use Prim.Native.Nat.{_+_, _*_, _<_, _≤_};
 ghost use lib.ListN.{length};
+ghost use Rattle.model.specs.Bytes as bytes;
 ghost use Rattle.model.specs.Bytes.{number, store, page, withPage};
 
 pub fn wide(b: u8) -> u32
@@ -80,4 +81,30 @@ pub fn copy_page(from: &[u8], x: usize, to: &mut [u8], y: usize)
     let first = 4096 * y;
     let last = first + 4096;
     copy(&from[start..stop], &mut to[first..last]);
+}
+
+// Whether a and b, which is as long, are equal. No byte ends the loop early, so that it looks at many at once.
+pub fn same(a: &[u8], b: &[u8]) -> bool
+    requires { ⌜ length (now a) ≡ length (now b) ⌝ }
+    ensures { λ r. ⌜ r ≡ bytes.same (now (a .entry)) (now (b .entry)) ⌝ }
+{
+    let mut equal = true;
+    let mut i = 0;
+    while i < a.len() {
+        equal = equal & (a[i] == b[i]);
+        i += 1;
+    }
+    equal
+}
+
+// Whether page x of a and page y of b are equal.
+pub fn same_page(a: &[u8], x: usize, b: &[u8], y: usize) -> bool
+    requires { ⌜ (4096 * x + 4096 ≤ length (now a)) × (4096 * y + 4096 ≤ length (now b)) ⌝ }
+    ensures { λ r. ⌜ r ≡ bytes.same (page (now (a .entry)) x) (page (now (b .entry)) y) ⌝ }
+{
+    let start = 4096 * x;
+    let stop = start + 4096;
+    let first = 4096 * y;
+    let last = first + 4096;
+    same(&a[start..stop], &b[first..last])
 }

@@ -9,13 +9,13 @@ element-set-from-y : tie.Need-element-set-from-y
 element-set-from-y c = omega (arith, c .frame .ensures)
 
 returns : tie.Need-returns
-returns c = grows _ _ _ _ (c .before .before .before .frame .ensures) (c .before .if1 .taken)
+returns c = grows _ _ _ _ (search needs) _ (search needs) (search needs)
 
 returns-2 : tie.Need-returns-2
-returns-2 c = turns _ _ _ _ (c .before .before .frame .ensures) (search needs) _ (omega arith)
+returns-2 c = turns _ _ _ _ (search needs) _ (search needs) (search needs) _ (omega arith)
 
 pub advanced-spec : {M : Type 1} → statement M
 advanced-spec =
     tie.close
-    (tie.spec (λ c κs. search needs) (λ c. search needs) (λ c. search needs) element-set-from-y (λ c. search needs) returns
-    (λ c. search needs) (λ c. search needs) returns-2)
+    (tie.spec (λ c κs. search needs) (λ c. search needs) (λ c. search needs) element-set-from-y
+    (λ c κs. omega (arith, c .frame .ensures)) (λ c. search needs) returns (λ c. search needs) (λ c. search needs) returns-2)

@@ -2,6 +2,7 @@
 use mathlib.Core.Path.{refl}
 use mathlib.Core.Bool.{false}
 use Rattle.model.specs.Attempt.{word, obeyLoad}
+use Rattle.cpu.specs.Reach.{loaded}
 use Rattle.cpu.proofs.Ways.{elsewhere, inside, transfer-ended, load-at}
 use borrow.Author.Needs.{needs}
 use Rattle.cpu.proofs.load_word.Statement.{statement}
@@ -19,9 +20,9 @@ returns c p =
     _ (c .write .ensures)
 
 returns-2 : tie.Need-returns-2
-unfolding obeyLoad
+unfolding obeyLoad loaded
 returns-2 c p =
-    transfer-ended _ _ _ _ false word _ _ _ (c .before .reach .ensures) (λ i e. elsewhere refl (rw e at (c .match .keys2)))
+    transfer-ended _ _ _ _ false word _ _ _ (c .before .reach .ensures) _ (λ i e. elsewhere refl (rw e at (c .match .keys2)))
 
 pub load-word-spec : {M : Type 1} → statement M
 load-word-spec =

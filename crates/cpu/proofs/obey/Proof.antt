@@ -32,33 +32,33 @@ returns-2 c = rw (c .before .before .before .t .given .1, c .write .ensures)
 
 returns-3 : tie.Need-returns-3
 unfolding obey
-returns-3 c = rw (c .before .before .before .before .before .t2 .given .1, c .ended .ensures) (c .before .load-byte .ensures _)
+returns-3 c = rw (c .before .before .before .before .before .t2 .given .1, c .loaded .ensures) (c .before .load-byte .ensures _)
 
 returns-4 : tie.Need-returns-4
 unfolding obey
-returns-4 c = rw (c .before .before .before .before .before .t3 .given .1, c .ended2 .ensures) (c .before .load-half .ensures _)
+returns-4 c = rw (c .before .before .before .before .before .t3 .given .1, c .loaded2 .ensures) (c .before .load-half .ensures _)
 
 returns-5 : tie.Need-returns-5
 unfolding obey
-returns-5 c = rw (c .before .before .before .before .before .t4 .given .1, c .ended3 .ensures) (c .before .load-word .ensures _)
+returns-5 c = rw (c .before .before .before .before .before .t4 .given .1, c .loaded3 .ensures) (c .before .load-word .ensures _)
 
 returns-6 : tie.Need-returns-6
 unfolding obey
 returns-6 c =
     let stored = c .before .before .before in
-    rw (stored .before .before .before .t5 .given .1, c .ended4 .ensures) (stored .store-byte .ensures _ _)
+    rw (stored .before .before .before .t5 .given .1, c .stored .ensures) (stored .store-byte .ensures _ _)
 
 returns-7 : tie.Need-returns-7
 unfolding obey
 returns-7 c =
     let stored = c .before .before .before in
-    rw (stored .before .before .before .t6 .given .1, c .ended5 .ensures) (stored .store-half .ensures _ _)
+    rw (stored .before .before .before .t6 .given .1, c .stored2 .ensures) (stored .store-half .ensures _ _)
 
 returns-8 : tie.Need-returns-8
 unfolding obey
 returns-8 c =
     let stored = c .before .before .before in
-    rw (stored .before .before .before .t7 .given .1, c .ended6 .ensures) (stored .store-word .ensures _ _)
+    rw (stored .before .before .before .t7 .given .1, c .stored3 .ensures) (stored .store-word .ensures _ _)
 
 returns-9 : tie.Need-returns-9
 unfolding obey

@@ -18,7 +18,7 @@ returns-2 c =
     let answer = printed .before .before .before .before .before in
     let called = answer .before .before .before .before .before .before in (
       same (printed .four-lines .ensures .0)
-          (run-printed _ _ _ (called .run .ensures) _ _ _ _ _ (printed .before .before .stop-number .ensures) (printed .before .stop-detail .ensures)
+          (run-printed _ _ _ (called .run .ensures) _ _ _ _ _ _ (printed .before .before .stop-number .ensures) (printed .before .stop-detail .ensures)
           (answer .answer2 .given .1)),
       run-left (called .run .ensures),
     )

@@ -7,9 +7,8 @@ use Rattle.record.proofs.machine_of.Tie as tie
 returns : tie.Need-returns
 unfolding machineOf
 returns c =
-    let at-shared-slice-known4 = c .before .before .before .before .before .before .before in
-    let at-part2 = at-shared-slice-known4 .before .before .before in
-    let registers = at-part2 in
+    let shape = c .before .before .before .before .before .before .before .before in
+    let registers = shape .before .before .before in
     let pages = registers .before in
     rw (registers .part2 .ensures, pages .pages-of .ensures, pages .before .part .ensures)
 
@@ -18,4 +17,4 @@ machine-of-spec =
     tie.close
     (tie.spec (λ c κs. search needs) (λ c κs. search needs) (λ c κs. search needs) (λ c. search needs) (λ c. search needs)
     (λ c. search needs) (λ c. search needs) (λ c. search needs) (λ c. search needs) (λ c. search needs) (λ c. search needs)
-    (λ c. search needs) (λ c. search needs) returns)
+    (λ c. search needs) (λ c. search needs) (λ c. search needs) returns)

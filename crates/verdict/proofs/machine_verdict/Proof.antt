@@ -15,7 +15,8 @@ sound-requires : tie.Need-sound-requires
 sound-requires c κs =
     let start = c .before .before .before .before .before .before in
     let a = start .args in
-    (fitted (whole (a .l) (a .held .now)) (a .main .now) (a .swap .now) _ (c .before .fits2 .ensures) (c .if1 .left), start .pre)
+    let fit = fitted (whole (a .l) (a .held .now)) (a .main .now) (a .swap .now) _ (c .before .fits2 .ensures) (c .if1 .left) in
+    (fit .0, fit .1, start .pre)
 
 returns-2 : tie.Need-returns-2
 returns-2 c =

@@ -13,14 +13,14 @@ use Rattle.book.proofs.check.all_different.Statement.{statement}
 use Rattle.book.proofs.check.all_different.Tie as tie
 
 abbrev Inv-loop : tie.InvT-loop
-Inv-loop used held n different₀ j i₀ different i = (i ≤ j) × (different ≡ true) × (differsBefore (bookOf used 0 held) j i ≡ true)
+Inv-loop used held n different₀ j i₀ different i = (i ≤ j) × (different ≡ true) × (differsBefore (bookOf used 0 held 0) j i ≡ true)
 
 abbrev μ-loop : tie.MeasureT-loop
 μ-loop used held n different₀ j i₀ different i = j - i
 
 abbrev Inv-frames : tie.InvT-frames
 Inv-frames used held n different₀ j₀ different j =
-    (j ≤ used) × (different ≡ true) × (everyBelow j (λ k. differsBefore (bookOf used 0 held) k k) ≡ true)
+    (j ≤ used) × (different ≡ true) × (everyBelow j (λ k. differsBefore (bookOf used 0 held 0) k k) ≡ true)
 
 abbrev μ-frames : tie.MeasureT-frames
 μ-frames used held n different₀ j₀ different j = used - j
@@ -43,12 +43,12 @@ frames-again c =
     (search needs, c .before .loop .inv .1, one-more _ _ (c .before .before .before .frames .inv .2) (rw e at (c .before .loop .inv .2)))
 
 returns : tie.Need-returns Inv-loop μ-loop Inv-frames μ-frames
-returns c = λ hand. c .before .frames .inv .1 ∙ all-passed _ _ _ (c .before .frames .inv .2) (search needs) (search needs)
+returns c = λ hand marks. c .before .frames .inv .1 ∙ all-passed _ _ _ (c .before .frames .inv .2) (search needs) (search needs)
 
 returns-2 : tie.Need-returns-2 Inv-loop μ-loop Inv-frames μ-frames
 returns-2 c =
     let start = c .before .before .before .before .before .before .before in
-    λ hand. pair-equal (start .args .used) (start .args .held .now) _ _ (search needs) (search needs) (c .if1 .taken)
+    λ hand marks. pair-equal (start .args .used) (start .args .held .now) _ _ (search needs) (search needs) (c .if1 .taken)
 
 pub all-different-spec : {M : Type 1} → statement M
 all-different-spec =

@@ -5,10 +5,10 @@ use Rattle.book.proofs.check.hand_right.Statement.{statement}
 use Rattle.book.proofs.check.hand_right.Tie as tie
 
 returns : tie.Need-returns
-returns c = let a = c .before .args in λ held. hand-free (a .a) (a .used) (a .hand) held (search needs)
+returns c = let a = c .before .args in λ held marks. hand-free (a .a) (a .used) (a .hand) held marks (search needs)
 
 returns-2 : tie.Need-returns-2
-returns-2 c = let a = c .before .args in λ held. hand-full (a .a) (a .used) (a .hand) held (search needs)
+returns-2 c = let a = c .before .args in λ held marks. hand-full (a .a) (a .used) (a .hand) held marks (search needs)
 
 pub hand-right-spec : {M : Type 1} → statement M
 hand-right-spec = tie.close (tie.spec returns returns-2)

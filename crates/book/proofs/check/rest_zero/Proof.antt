@@ -10,7 +10,7 @@ use Rattle.book.proofs.check.rest_zero.Statement.{statement}
 use Rattle.book.proofs.check.rest_zero.Tie as tie
 
 abbrev Inv-loop : tie.InvT-loop
-Inv-loop used held zero₀ i₀ zero i = (used ≤ i) × (i ≤ 32) × (zero ≡ everyBelow i (λ k. zeroFrom (bookOf used 0 held) k))
+Inv-loop used held zero₀ i₀ zero i = (used ≤ i) × (i ≤ 32) × (zero ≡ everyBelow i (λ k. zeroFrom (bookOf used 0 held 0) k))
 
 abbrev μ-loop : tie.MeasureT-loop
 μ-loop used held zero₀ i₀ zero i = 32 - i
@@ -26,7 +26,7 @@ loop-again c =
 returns : tie.Need-returns Inv-loop μ-loop
 returns c =
     let end = c .before in
-    λ hand. zero-all _ (end .before .args .held .now) _ (search needs) (search needs) _ (end .loop .inv .2)
+    λ hand marks. zero-all _ (end .before .args .held .now) _ (search needs) (search needs) _ (end .loop .inv .2)
 
 pub rest-zero-spec : {M : Type 1} → statement M
 rest-zero-spec =

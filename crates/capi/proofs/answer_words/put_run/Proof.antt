@@ -1,14 +1,14 @@
--- `answer_words::put_run`: the four words of a run, or four zeros.
+-- `answer_words::put_run`: the five words of a run, or five zeros.
 use Rattle.capi.proofs.Numbers.{ran, not-run}
 use borrow.Author.Needs.{needs}
 use Rattle.capi.proofs.answer_words.put_run.Statement.{statement}
 use Rattle.capi.proofs.answer_words.put_run.Tie as tie
 
 returns : tie.Need-returns
-returns c = ran _ _ _ _ (c .before .before .before .before .before .before .before .a .given .1) _ (c .before .before .before .before .stop-number .ensures) _ (c .before .before .before .stop-detail .ensures) _ (c .before .before .put-four .ensures)
+returns c = ran _ _ _ _ _ (c .before .before .before .before .before .before .before .a .given .1) _ (c .before .before .before .before .stop-number .ensures) _ (c .before .before .before .stop-detail .ensures) _ (c .before .before .put-five .ensures)
 
 returns-2 : tie.Need-returns-2
-returns-2 c = not-run _ _ (c .before .before .before .before .before .before .a2 .given .1) _ (c .refusal-number .ensures) _ (c .before .before .before .put-four2 .ensures)
+returns-2 c = not-run _ _ (c .before .before .before .before .before .before .a2 .given .1) _ (c .refusal-number .ensures) _ (c .before .before .before .put-five2 .ensures)
 
 pub put-run-spec : {M : Type 1} → statement M
 put-run-spec =

@@ -1,6 +1,6 @@
 -- `code::find`: the page is read, or no page is found.
 use mathlib.Core.Path.{refl}
-use Rattle.cpu.proofs.CodePages.{nowhere, in-table, stands}
+use Rattle.cpu.proofs.CodePages.{no-place, nowhere, in-table, stands}
 use borrow.Author.Needs.{needs}
 use Rattle.cpu.proofs.code.find.Statement.{statement}
 use Rattle.cpu.proofs.code.find.Tie as tie
@@ -18,7 +18,7 @@ returns c =
     (c .before .entry .ensures) _ (c .ppx .ensures)
 
 returns-2 : tie.Need-returns-2
-returns-2 c = nowhere _ _ (record { 0 = 1048576 }) refl (record { 0 = 0 })
+returns-2 c = nowhere _ _ _ _ (c .before .locate .ensures) (λ i e. no-place refl (rw e at (c .match .keys2))) (record { 0 = 1048576 }) refl (record { 0 = 0 })
 
 pub find-spec : {M : Type 1} → statement M
 find-spec =

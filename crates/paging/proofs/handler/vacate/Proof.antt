@@ -16,9 +16,15 @@ element-copy-out-x c =
     let start = c .before .before .before .before .before in
     omega (arith, c .frame .ensures, start .pre .taken, start .pre .fit .frames-most)
 
+marked-requires : tie.Need-marked-requires
+marked-requires c κs =
+    let framed = c .before .before .before in
+    let start = framed .before .before .before .before .before in
+    omega (arith, framed .frame .ensures, start .pre .taken, start .pre .fit .frames-most)
+
 put-out-requires : tie.Need-put-out-requires
 put-out-requires c κs =
-    let framed = c .before .before .before in
+    let framed = c .before .before .before .before in
     let start = framed .before .before .before .before .before in
     let f = framed .frame .ensures in (
       search needs,
@@ -30,11 +36,12 @@ put-out-requires c κs =
 returns-2 : tie.Need-returns-2
 returns-2 c =
     let left = c .before .before .before .before in
-    let framed = left .before .before .before .before in
-    vacated-full _ _ _ _ (framed .frame .ensures) (search needs) _ (left .put-out .ensures)
+    let tested = left .before in
+    let framed = tested .before .before .before .before in
+    vacated-full _ _ _ _ (framed .frame .ensures) (search needs) _ (omega arith) _ (tested .marked .ensures) _ (left .put-out .ensures)
 
 pub vacate-spec : {M : Type 1} → statement M
 vacate-spec =
     tie.close
-    (tie.spec returns (λ c κs. search needs) (λ c. search needs) (λ c. search needs) element-copy-out-x put-out-requires (λ c. search needs)
-    (λ c. search needs) returns-2)
+    (tie.spec returns (λ c κs. search needs) (λ c. search needs) (λ c. search needs) element-copy-out-x marked-requires put-out-requires
+    (λ c. search needs) (λ c. search needs) returns-2)

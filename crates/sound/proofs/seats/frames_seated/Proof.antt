@@ -16,8 +16,8 @@ use Rattle.sound.proofs.seats.frames_seated.Tie as tie
 
 abbrev Inv-loop : tie.InvT-loop
 Inv-loop s used held main f₀ f =
-    (f ≤ used) × (everyBelow f (λ k. ltb (pageIn (bookOf used 0 held) k .0) (s .ptl)) ≡ true)
-    × (everyBelow f (λ k. seated s (bookOf used 0 held) main k) ≡ true)
+    (f ≤ used) × (everyBelow f (λ k. ltb (pageIn (bookOf used 0 held 0) k .0) (s .ptl)) ≡ true)
+    × (everyBelow f (λ k. seated s (bookOf used 0 held 0) main k) ≡ true)
 
 abbrev μ-loop : tie.MeasureT-loop
 μ-loop s used held main f₀ f = used - f
@@ -29,7 +29,7 @@ returns : tie.Need-returns Inv-loop μ-loop
 returns c =
     let turn = c .before .before .before .before in
     let a = turn .before .before .before .args in
-    λ hand. page-beyond (a .s) (a .used) (a .held .now) (a .main .now) (turn .loop .f) (search needs) (search needs)
+    λ hand marks. page-beyond (a .s) (a .used) (a .held .now) (a .main .now) (turn .loop .f) (search needs) (search needs)
 
 entry-requires : tie.Need-entry-requires Inv-loop μ-loop
 entry-requires c κs = (search needs, omega (arith, ap (λ p. p .0) (c .virtual-page .ensures)))
@@ -40,7 +40,7 @@ returns-2 c =
     let paged = read .before in
     let turn = paged .before .before .before .before .before in
     let a = turn .before .before .before .args in
-    λ hand. seat-invalid (a .s) (a .used) (a .held .now) (a .main .now) (turn .loop .f) _ (paged .virtual-page .ensures) _ (read .entry .ensures) (search needs) (λ v. omega (arith, v))
+    λ hand marks. seat-invalid (a .s) (a .used) (a .held .now) (a .main .now) (turn .loop .f) _ (paged .virtual-page .ensures) _ (read .entry .ensures) (search needs) (λ v. omega (arith, v))
 
 returns-3 : tie.Need-returns-3 Inv-loop μ-loop
 returns-3 c =
@@ -51,7 +51,7 @@ returns-3 c =
     let a = turn .before .before .before .args in
     let p = ap (λ p. p .0) (placed .before .ppx .ensures) in
     let f = ap (λ p. p .0) (placed .frame-at .ensures) in
-    λ hand. seat-other (a .s) (a .used) (a .held .now) (a .main .now) (turn .loop .f) _ (paged .virtual-page .ensures) _ (read .entry .ensures) (search needs) (λ q. omega (arith, p, f, q))
+    λ hand marks. seat-other (a .s) (a .used) (a .held .now) (a .main .now) (turn .loop .f) _ (paged .virtual-page .ensures) _ (read .entry .ensures) (search needs) (λ q. omega (arith, p, f, q))
 
 loop-again : tie.Need-loop-again Inv-loop μ-loop
 loop-again c =
@@ -73,7 +73,7 @@ returns-4 : tie.Need-returns-4 Inv-loop μ-loop
 returns-4 c =
     let end = c .before in
     let a = end .before .before .before .args in
-    λ hand. both-pass (a .s) (a .used) (a .held .now) (a .main .now) (all-passed _ _ _ (end .loop .inv .1) (search needs) (search needs)) (all-passed _ _ _ (end .loop .inv .2) (search needs) (search needs))
+    λ hand marks. both-pass (a .s) (a .used) (a .held .now) (a .main .now) (all-passed _ _ _ (end .loop .inv .1) (search needs) (search needs)) (all-passed _ _ _ (end .loop .inv .2) (search needs) (search needs))
 
 pub frames-seated-spec : {M : Type 1} → statement M
 frames-seated-spec =

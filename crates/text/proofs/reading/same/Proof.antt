@@ -3,7 +3,7 @@ use mathlib.Core.Path.{_≡_, refl, sym, _∙_}
 use Prim.Native.Nat.{_≤_, _-_}
 use native.Mathlib.Omega.{arith}
 use lib.ListN.{length, drop}
-use Rattle.text.specs.Reading.{same}
+use Rattle.model.specs.Bytes.{same}
 use Rattle.text.proofs.Words.{unequal, byte-same, byte-other, all-same}
 use borrow.Author.Needs.{needs}
 use Rattle.text.proofs.reading.same.Statement.{statement}

@@ -5,7 +5,7 @@
 #include <string.h>
 
 typedef struct {
-    uint32_t pages, frames, abase, ptl, pto, sbase, used, hand, held[32], gpr[32], dpc, next;
+    uint32_t pages, frames, abase, ptl, pto, sbase, used, hand, held[32], gpr[32], dpc, next, marks;
 } Machine;
 
 enum { GOING, FAULT, TRAP, STOP };
@@ -30,21 +30,27 @@ static inline int locate(const Machine *s, const uint8_t *m, uint32_t va, uint32
     return 1;
 }
 
-static void mark(uint8_t *p, uint32_t ppx, uint32_t v) { put(p, (word(p) & 0xffe) | ppx << 12 | v); }
+static void set_entry(uint8_t *p, uint32_t ppx, uint32_t v) { put(p, (word(p) & 0xffe) | ppx << 12 | v); }
 
-__attribute__((noinline)) static void load(Machine *s, uint8_t *m, uint8_t *w, uint32_t y) {
-    uint32_t f = s->used;
+static inline void mark(Machine *s, size_t at) { s->marks |= 1u << ((at >> 12) - s->abase); }
+
+/* Loads page y, and says whether the page that left was marked, so copied back. */
+__attribute__((noinline)) static uint32_t load(Machine *s, uint8_t *m, uint8_t *w, uint32_t y) {
+    uint32_t f = s->used, copied = 0;
     if (f < s->frames) s->used++;
     else {
         f = s->hand;
         uint32_t x = s->held[f];
-        memcpy(w + (s->sbase + x) * 4096, m + (s->abase + f) * 4096, 4096);
-        mark(m + s->pto + 4 * x, 0, 0);
+        copied = s->marks >> f & 1;
+        if (copied) memcpy(w + (s->sbase + x) * 4096, m + (s->abase + f) * 4096, 4096);
+        set_entry(m + s->pto + 4 * x, 0, 0);
         s->hand = (f + 1) % s->frames;
     }
     memcpy(m + (s->abase + f) * 4096, w + (s->sbase + y) * 4096, 4096);
     s->held[f] = y;
-    mark(m + s->pto + 4 * y, s->abase + f, 1);
+    s->marks &= ~(1u << f);
+    set_entry(m + s->pto + 4 * y, s->abase + f, 1);
+    return copied;
 }
 
 #define SET(rd, x) do { uint32_t v_ = (x); if (rd) s->gpr[rd] = v_; } while (0)
@@ -114,17 +120,20 @@ static inline Out attempt(Machine *s, uint8_t *m) {
     case 40:
         if (!locate(s, m, va, 2, &at, &o)) return o;
         m[at] = (uint8_t)s->gpr[rd];
+        mark(s, at);
         NEXT;
     case 41:
         if (va & 1) return (Out){ STOP, 3, va };
         if (!locate(s, m, va, 2, &at, &o)) return o;
         h = (uint16_t)s->gpr[rd];
         memcpy(m + at, &h, 2);
+        mark(s, at);
         NEXT;
     case 43:
         if (va & 3) return (Out){ STOP, 3, va };
         if (!locate(s, m, va, 2, &at, &o)) return o;
         put(m + at, s->gpr[rd]);
+        mark(s, at);
         NEXT;
     case 62: s->dpc = s->next; s->next += 4; return (Out){ TRAP, w & 0x3ffffff, 0 };
     default: return (Out){ STOP, 4, w };
@@ -134,14 +143,14 @@ static inline Out attempt(Machine *s, uint8_t *m) {
 void base_run(uint32_t *record, uint8_t *m, uint8_t *w, uint32_t limit, uint32_t *answer) {
     Machine s;
     memcpy(&s, record, sizeof s);
-    uint32_t finished = 0, loads = 0, stop = 0, detail = 0;
+    uint32_t finished = 0, loads = 0, copied = 0, stop = 0, detail = 0;
     while (finished < limit) {
         Out o = attempt(&s, m);
         if (o.tag == GOING) finished++;
-        else if (o.tag == FAULT) { load(&s, m, w, o.a); loads++; }
+        else if (o.tag == FAULT) { copied += load(&s, m, w, o.a); loads++; }
         else if (o.tag == TRAP) { finished++; stop = 1; detail = o.a; break; }
         else { stop = o.a; detail = o.b; break; }
     }
     memcpy(record, &s, sizeof s);
-    answer[0] = stop; answer[1] = detail; answer[2] = finished; answer[3] = loads;
+    answer[0] = stop; answer[1] = detail; answer[2] = finished; answer[3] = loads; answer[4] = copied;
 }

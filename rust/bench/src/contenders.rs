@@ -5,8 +5,8 @@ use peer::{Record, PAGE};
 
 /// A machine that runs. Its calls panic where they are refused.
 pub trait Contender {
-    /// Stop, detail, finished, loads.
-    fn run(&mut self, limit: u32) -> [u32; 4];
+    /// Stop, detail, finished, loads, copied.
+    fn run(&mut self, limit: u32) -> [u32; 5];
     fn state(&self) -> State;
 }
 
@@ -39,8 +39,8 @@ pub fn hosts() -> Vec<Entry<dyn Host>> {
 struct Proved(State);
 
 impl Contender for Proved {
-    fn run(&mut self, limit: u32) -> [u32; 4] {
-        let (mut answer, State { words, main, swap }) = ([0; 4], &mut self.0);
+    fn run(&mut self, limit: u32) -> [u32; 5] {
+        let (mut answer, State { words, main, swap }) = ([0; 5], &mut self.0);
         assert_eq!(calls::run(words, main, swap, limit, &mut answer), 0);
         answer
     }
@@ -81,9 +81,9 @@ impl Plain {
 }
 
 impl Contender for Plain {
-    fn run(&mut self, limit: u32) -> [u32; 4] {
+    fn run(&mut self, limit: u32) -> [u32; 5] {
         let ran = peer::run(&mut self.rec, &mut self.main, &mut self.swap, limit).unwrap();
-        [ran.stop, ran.detail, ran.finished, ran.loads]
+        [ran.stop, ran.detail, ran.finished, ran.loads, ran.copied]
     }
 
     fn state(&self) -> State {
@@ -97,7 +97,7 @@ impl Host for Plain {
     }
 
     fn write(&mut self, va: u32, from: &[u8]) {
-        peer::host_write(&self.rec, &mut self.main, &mut self.swap, va, from).unwrap();
+        peer::host_write(&mut self.rec, &mut self.main, &mut self.swap, va, from).unwrap();
     }
 
     fn view(&mut self, page: u32, into: &mut [u8; PAGE]) {
@@ -119,10 +119,10 @@ extern "C" {
 
 impl Contender for C {
     #[cfg(feature = "base")]
-    fn run(&mut self, limit: u32) -> [u32; 4] {
-        let (mut answer, State { words, main, swap }) = ([0; 4], &mut self.0);
+    fn run(&mut self, limit: u32) -> [u32; 5] {
+        let (mut answer, State { words, main, swap }) = ([0; 5], &mut self.0);
         // SAFETY: it goes where a sound machine's table leads, and only sound machines are handed to it; the
-        // record has 74 words, the answer 4.
+        // record has 75 words, the answer 5.
         unsafe {
             base_run(words.as_mut_ptr(), main.as_mut_ptr(), swap.as_mut_ptr(), limit, answer.as_mut_ptr())
         };
@@ -130,7 +130,7 @@ impl Contender for C {
     }
 
     #[cfg(not(feature = "base"))]
-    fn run(&mut self, _limit: u32) -> [u32; 4] {
+    fn run(&mut self, _limit: u32) -> [u32; 5] {
         unreachable!("it is no entry without the compiled C")
     }
 

@@ -118,14 +118,14 @@ fn sort() -> Vec<u32> {
     ]
 }
 
-/// Adds 1 to the first word of pages 1 to 7 in turn.
-fn hop() -> Vec<u32> {
+/// Adds 1 to the first word of pages 1 to 7 in turn, and puts the sum back by the word `last`.
+fn hop(last: u32) -> Vec<u32> {
     vec![
         i(ADDI, 1, 0, 4096),
         i(ADDI, 6, 0, 7),
         i(LW, 2, 1, 0),
         i(ADDI, 2, 2, 1),
-        i(SW, 2, 1, 0),
+        last,
         i(SUBI, 6, 6, 1),
         i(BNEZ, 0, 6, -20),
         i(ADDI, 1, 1, 4096),
@@ -136,15 +136,19 @@ fn hop() -> Vec<u32> {
 
 pub fn guests() -> Vec<Guest> {
     let guest = |name, frames, ptl, code| Guest { name, frames, ptl, code };
+    let (write, read) = (i(SW, 2, 1, 0), i(ADDI, 3, 2, 0));
     vec![
         guest("ALU loop", 4, 4, alu()),
         guest("byte copy", 4, 4, copy(LBU, SB, 1)),
         guest("word copy", 4, 4, copy(LW, SW, 4)),
         guest("addi", 4, 4, addi()),
         guest("sort", 4, 4, sort()),
-        guest("page hops, a = 2", 2, 8, hop()),
-        guest("page hops, a = 3", 3, 8, hop()),
-        guest("page hops, a = 4", 4, 8, hop()),
+        guest("page hops, a = 2", 2, 8, hop(write)),
+        guest("page hops, a = 3", 3, 8, hop(write)),
+        guest("page hops, a = 4", 4, 8, hop(write)),
+        guest("page hops that only read, a = 2", 2, 8, hop(read)),
+        guest("page hops that only read, a = 3", 3, 8, hop(read)),
+        guest("page hops that only read, a = 4", 4, 8, hop(read)),
     ]
 }
 

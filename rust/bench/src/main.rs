@@ -1,7 +1,6 @@
 //! Times the proved library beside the same machine, assembler and lister in plain Rust (`peer`), and beside the
-//! machine in C: `bench [rounds]`. The
-//! contenders take turns in each round; a figure is the median over the rounds. It prints tables, and writes
-//! no file.
+//! machine in C: `bench [rounds]`. The contenders take turns in each round; a figure is the median over the
+//! rounds. It prints tables, and writes no file.
 #![deny(unsafe_code)]
 
 #[allow(unsafe_code)]
@@ -47,7 +46,8 @@ fn texts(rounds: usize) {
         tool.assemble(&text, &mut out);
         assert!(out[..] == page[..]);
     });
-    for (name, room) in [("1024 words listed", 18 * PAGE / 4), ("the same, where they just fit", text.len())] {
+    for (name, room) in [("1024 words listed", 18 * PAGE / 4), ("the same, where they just fit", text.len())]
+    {
         times_of(name, &|tool| {
             let mut out = vec![0; room];
             tool.list(&page, &mut out);
@@ -59,30 +59,31 @@ fn texts(rounds: usize) {
 /// The guests.
 fn runs(rounds: usize) {
     let contenders = contenders();
-    heading("guest, ns an instruction", &contenders, " loads an instruction |");
+    heading("guest, ns an instruction", &contenders, " loads an instruction | copied back |");
     for guest in guests() {
         agree(&guest, &contenders);
-        let mut loads = 0;
+        let (mut loads, mut copied) = (0, 0);
         let times = medians(rounds, &contenders, |make| {
             let mut machine = make(fresh(&guest));
             let begin = cpu_time();
             let answer = machine.run(RUN);
             let time = cpu_time() - begin;
             assert_eq!(answer[..3], [0, 0, RUN]);
-            loads = answer[3];
+            (loads, copied) = (answer[3], answer[4]);
             time / f64::from(RUN)
         });
-        row(guest.name, &times, &format!(" {:.2} |", f64::from(loads) / f64::from(RUN)));
+        let share = |count: u32| f64::from(count) / f64::from(RUN);
+        row(guest.name, &times, &format!(" {:.2} | {:.2} |", share(loads), share(copied)));
     }
 }
 
-/// One call of each kind. All but the reply check that the machine is sound, which is all that a run of no
-/// instruction does.
+/// One call of each kind, on a machine with all frames in use. All but the reply check that the machine is
+/// sound, which is all that a run of no instruction does: it compares every page that has no mark with swap.
 fn calls(rounds: usize) {
     let hosts = hosts();
     heading("one call, ns", &hosts, "");
-    let time_of = |name: &'static str, ptl: u32, call: &dyn Fn(&mut dyn Host)| {
-        let guest = Guest { name, frames: 4, ptl, code: Vec::new() };
+    let time_with = |name: &'static str, frames: u32, ptl: u32, call: &dyn Fn(&mut dyn Host)| {
+        let guest = Guest { name, frames, ptl, code: Vec::new() };
         // A call through `dyn` is a real call: nothing of it can be left out or taken together.
         let times = medians(rounds, &hosts, |make| {
             let mut host = make(full(&guest));
@@ -92,10 +93,14 @@ fn calls(rounds: usize) {
         });
         row(name, &times, "");
     };
-    let run = |host: &mut dyn Host| assert_eq!(host.run(0), [0; 4]);
+    let time_of = |name, ptl, call: &dyn Fn(&mut dyn Host)| time_with(name, 4, ptl, call);
+    let run = |host: &mut dyn Host| assert_eq!(host.run(0), [0; 5]);
     time_of("run of 0 instructions, ptl 4", 4, &run);
     time_of("run of 0 instructions, ptl 64", 64, &run);
     time_of("run of 0 instructions, ptl 1024", 1024, &run);
+    time_with("run of 0 instructions, 2 frames", 2, 32, &run);
+    time_with("run of 0 instructions, 4 frames", 4, 32, &run);
+    time_with("run of 0 instructions, 32 frames", 32, 32, &run);
     time_of("read of 3 bytes, ptl 4", 4, &read::<3>);
     time_of("read of 3 bytes, ptl 1024", 1024, &read::<3>);
     time_of("read of 256 bytes, ptl 4", 4, &read::<256>);
@@ -119,7 +124,7 @@ fn write<const LENGTH: usize>(host: &mut dyn Host) {
     host.write(4095, &[7; LENGTH]);
 }
 
-/// A machine whose frames hold the first pages.
+/// A machine whose frames hold the first pages, as they stand in swap.
 fn full(guest: &Guest) -> State {
     let mut state = fresh(guest);
     state.words[6] = guest.frames;
@@ -127,6 +132,8 @@ fn full(guest: &Guest) -> State {
         entry.copy_from_slice(&((1 + frame) << 12 | 7).to_le_bytes());
         state.words[8 + frame as usize] = frame;
     }
+    let pages = PAGE * guest.frames as usize;
+    state.main[PAGE..][..pages].copy_from_slice(&state.swap[..pages]);
     state
 }
 

@@ -99,7 +99,7 @@ pub fn image(file: &[u8], answer: &mut [u32]) -> u32 {
     unsafe { header::brenwythal_image(file.as_ptr(), file.len(), answer.as_mut_ptr(), answer.len()) }
 }
 
-/// Fills a record of 74 words, and both memories.
+/// Fills a record of 75 words, and both memories.
 pub fn load(file: &[u8], main: &mut [u8], swap: &mut [u8], record: &mut [u32]) -> u32 {
     // SAFETY: as the head of this module says.
     unsafe {
@@ -116,7 +116,7 @@ pub fn load(file: &[u8], main: &mut [u8], swap: &mut [u8], record: &mut [u32]) -
     }
 }
 
-/// Fills an answer of 4 words: stop, detail, finished, loads.
+/// Fills an answer of 5 words: stop, detail, finished, loads, copied.
 pub fn run(record: &mut [u32], main: &mut [u8], swap: &mut [u8], limit: u32, answer: &mut [u32]) -> u32 {
     // SAFETY: as the head of this module says.
     unsafe {
@@ -152,7 +152,7 @@ pub fn read(record: &[u32], main: &[u8], swap: &[u8], va: u32, into: &mut [u8]) 
     }
 }
 
-/// Writes `from` to the guest's memory at `va`.
+/// Writes `from` to the guest's memory at `va`, and marks the frames that get a byte.
 pub fn write(record: &mut [u32], main: &mut [u8], swap: &mut [u8], va: u32, from: &[u8]) -> u32 {
     // SAFETY: as the head of this module says.
     unsafe {

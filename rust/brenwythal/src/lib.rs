@@ -1,9 +1,10 @@
 //! The proved paged console machine, for hosts in Rust.
 //!
 //! [`Machine`] owns a machine's record and both of its memories and asks the library of brenwythal.h for
-//! everything that it does; [`assemble`] and [`list()`] are the makers' tools. This crate adds types, and no rule
-//! of its own. [`calls`] has the same calls on lent slices. The names are those of the header: BRENWYTHAL_DPC is [`DPC`], BRENWYTHAL_STOP_TRAP is
-//! [`Stop::Trap`], BRENWYTHAL_REFUSAL_BOUND is [`Refusal::Bound`].
+//! everything that it does; [`assemble`] and [`list()`] are the makers' tools. This crate adds types, and no
+//! rule of its own. [`calls`] has the same calls on lent slices. The names are those of the header:
+//! BRENWYTHAL_DPC is [`DPC`], BRENWYTHAL_STOP_TRAP is [`Stop::Trap`], BRENWYTHAL_REFUSAL_BOUND is
+//! [`Refusal::Bound`].
 //!
 //! ```no_run
 //! use brenwythal::{image, Machine, Stop};
@@ -131,6 +132,8 @@ pub struct Ran {
     pub finished: u32,
     /// Pages loaded from swap.
     pub loads: u32,
+    /// Pages copied back to swap: the loads for which a page with a [mark](Machine::marks) left.
+    pub copied: u32,
 }
 
 /// A machine: its record, its main memory and its swap.
@@ -155,7 +158,9 @@ impl Machine {
     }
 
     /// A machine put together from what [`Machine::into_parts`] gave, or by hand. Nothing is tested here:
-    /// each call but `reply` refuses 1 or 2 if the parts do not fit.
+    /// each call but `reply` refuses 1 or 2 if the parts do not fit. Where a frame or its swap page is
+    /// changed by hand, so that the two differ, the frame needs its [mark](Machine::marks): else it is
+    /// refused 2.
     pub fn from_parts(record: [u32; RECORD], main: Vec<u8>, swap: Vec<u8>) -> Self {
         Machine { record, main, swap }
     }
@@ -169,8 +174,8 @@ impl Machine {
     pub fn run(&mut self, limit: u32) -> Result<Ran, Refusal> {
         let mut answer = [0; RUN_ANSWER];
         Refusal::check(calls::run(&mut self.record, &mut self.main, &mut self.swap, limit, &mut answer))?;
-        let [stop, detail, finished, loads] = answer;
-        Ok(Ran { stop: Stop::new(stop, detail), finished, loads })
+        let [stop, detail, finished, loads, copied] = answer;
+        Ok(Ran { stop: Stop::new(stop, detail), finished, loads, copied })
     }
 
     /// Fills `into`, 0 to 256 bytes, from the guest's memory at `va`. It can be refused 1 to 4.
@@ -178,7 +183,8 @@ impl Machine {
         Refusal::check(calls::read(&self.record, &self.main, &self.swap, va, into))
     }
 
-    /// Writes 0 to 256 bytes to the guest's memory at `va`. It can be refused 1 to 4.
+    /// Writes 0 to 256 bytes to the guest's memory at `va`, and marks the frames that get one. It can be
+    /// refused 1 to 4.
     pub fn write(&mut self, va: u32, from: &[u8]) -> Result<(), Refusal> {
         Refusal::check(calls::write(&mut self.record, &mut self.main, &mut self.swap, va, from))
     }
@@ -238,6 +244,24 @@ impl Machine {
         let at = (page as usize).checked_mul(4)?.checked_add(self.record[PTO] as usize)?;
         let bytes = self.main.get(at..at.checked_add(4)?)?;
         Some((at, u32::from_le_bytes(bytes.try_into().ok()?)))
+    }
+
+    /// The marks of the frames, bit i for frame i. A mark is set by a guest's store and by a
+    /// [write](Machine::write) of at least one byte, and cleared when the frame gets another page. A page
+    /// without a mark is as it stands in swap, and is not copied back when it leaves.
+    ///
+    /// ```
+    /// # let file = include_bytes!("../../../examples/trap.img");
+    /// # use brenwythal::Machine;
+    /// let mut machine = Machine::load(file, 3)?;
+    /// machine.run(1)?;
+    /// assert_eq!(machine.marks(), 0);
+    /// machine.write(4000, b"7")?;
+    /// assert_eq!(machine.marks(), 1);
+    /// # Ok::<(), brenwythal::Refusal>(())
+    /// ```
+    pub fn marks(&self) -> u32 {
+        self.record[MARKS]
     }
 
     /// GPR 0 to 31.

@@ -4,7 +4,7 @@
 pub const PAGE: usize = 4096;
 
 /// The length of a record in words.
-pub const RECORD: usize = 74;
+pub const RECORD: usize = 75;
 /// P, the pages of main memory.
 pub const PAGES: usize = 0;
 /// a, the frames among them.
@@ -29,9 +29,11 @@ pub const GPR: usize = 40;
 pub const DPC: usize = 72;
 /// PC', the address of the one after it.
 pub const NEXT: usize = 73;
+/// The marks of the frames, bit i for frame i.
+pub const MARKS: usize = 74;
 
 /// The length of the answer of a run in words.
-pub const RUN_ANSWER: usize = 4;
+pub const RUN_ANSWER: usize = 5;
 /// Why the run ended.
 pub const STOP: usize = 0;
 /// What belongs to it.
@@ -40,6 +42,8 @@ pub const DETAIL: usize = 1;
 pub const FINISHED: usize = 2;
 /// Pages loaded from swap.
 pub const LOADS: usize = 3;
+/// Pages copied back to swap.
+pub const COPIED: usize = 4;
 
 /// The length of the answer about an image in words.
 pub const IMAGE_ANSWER: usize = 3;

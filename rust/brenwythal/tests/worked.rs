@@ -1,5 +1,5 @@
 //! Worked values of document 01, through the wrapper.
-use brenwythal::{image, Image, Machine, Ran, Refusal, Stop, GPR, HELD, PAGE, PTL, PTO, USED};
+use brenwythal::{image, Image, Machine, Ran, Refusal, Stop, GPR, HELD, MARKS, PAGE, PTL, PTO, USED};
 
 const DEPOT: &[u8] = include_bytes!("../../../examples/depot.img");
 const HOP: &[u8] = include_bytes!("../../../examples/hop.img");
@@ -37,7 +37,7 @@ fn one_page_image() {
     assert_eq!(about.least_main_pages(), 3);
     let mut machine = Machine::load(&file, 5).unwrap();
     assert_eq!((machine.main().len(), machine.swap().len()), (5 * PAGE, PAGE));
-    assert_eq!(machine.run(1000), Ok(Ran { stop: Stop::Trap(5), finished: 3, loads: 1 }));
+    assert_eq!(machine.run(1000), Ok(Ran { stop: Stop::Trap(5), finished: 3, loads: 1, copied: 0 }));
     assert_eq!(machine.dpc(), 12);
     assert_eq!(machine.registers()[..3], [0, 7, 0]);
     let mut word = [0xEE; 4];
@@ -76,7 +76,7 @@ fn four_loads() {
     let lw = |from: u32| 35 << 26 | 1 << 16 | from;
     let file = console(&[(3, &[lw(4096), lw(8192)]), (1, &[]), (1, &[])], 0, 2);
     let mut machine = Machine::load(&file, 3).unwrap();
-    assert_eq!(machine.run(2), Ok(Ran { stop: Stop::Limit, finished: 2, loads: 4 }));
+    assert_eq!(machine.run(2), Ok(Ran { stop: Stop::Limit, finished: 2, loads: 4, copied: 0 }));
     assert_eq!(machine.record()[USED..HELD + 2], [2, 0, 2, 0], "b, hand, B");
 }
 
@@ -108,7 +108,7 @@ fn refusals() {
     assert!(Machine::load(&file, 3).is_ok() && Machine::load(&file, 64).is_ok());
 
     let mut machine = Machine::load(&file, 5).unwrap();
-    assert_eq!(machine.run(0), Ok(Ran { stop: Stop::Limit, finished: 0, loads: 0 }));
+    assert_eq!(machine.run(0), Ok(Ran { stop: Stop::Limit, finished: 0, loads: 0, copied: 0 }));
     let fresh = machine.clone();
     assert_eq!(machine.run(1_000_001), Err(Refusal::TooMuch));
     assert_eq!(machine.read(0, &mut [0; 257]), Err(Refusal::TooMuch));
@@ -168,6 +168,55 @@ fn spare_bits_of_no_entry() {
     assert_eq!(Machine::from_parts(record, Vec::new(), swap).spare(0), None);
 }
 
+/// "An unmarked victim is not copied", and a marked one is.
+#[test]
+fn marks() {
+    let lw = |from: u32| 35 << 26 | 1 << 16 | from;
+    let code = [lw(4096), lw(8192), lw(4096), lw(8192)];
+    let mut machine = Machine::load(&console(&[(3, &code), (3, &[]), (3, &[])], 0, 2), 3).unwrap();
+    assert_eq!((machine.run(1).unwrap().copied, machine.marks()), (0, 0));
+    machine.write(4096, b"").unwrap();
+    assert_eq!(machine.marks(), 0);
+    machine.write(4096, &[0]).unwrap();
+    assert_eq!(machine.marks(), 0b10, "page 1 is in frame 1");
+
+    // Page 2 takes the frame of page 0, which then takes that of page 1.
+    assert_eq!(machine.run(1), Ok(Ran { stop: Stop::Limit, finished: 1, loads: 2, copied: 1 }));
+    assert_eq!(machine.marks(), 0);
+    machine.write(8192, &[1, 2, 3]).unwrap();
+    assert_eq!((machine.marks(), machine.swap()[8192]), (0b01, 0));
+    assert_eq!(machine.run(1), Ok(Ran { stop: Stop::Limit, finished: 1, loads: 1, copied: 1 }));
+    assert_eq!(machine.swap()[8192..8196], [1, 2, 3, 0]);
+}
+
+/// A change by hand under a page without a mark is refused 2, wherever the byte is.
+#[test]
+fn changes_by_hand_need_a_mark() {
+    let mut machine = Machine::load(&one_page(), 3).unwrap();
+    machine.run(1).unwrap();
+    let (record, main, swap) = machine.into_parts();
+    let mut marked = record;
+    marked[MARKS] = 1;
+    for at in [0, 2000, PAGE - 1] {
+        let (mut other_main, mut other_swap) = (main.clone(), swap.clone());
+        other_main[PAGE + at] ^= 0x40;
+        other_swap[at] ^= 0x40;
+        for (main, swap) in [(&other_main, &swap), (&main, &other_swap)] {
+            let with = |record| Machine::from_parts(record, main.clone(), swap.clone());
+            assert_eq!(with(record).run(0), Err(Refusal::Unsound));
+            assert_eq!(with(record).view(0), Err(Refusal::Unsound));
+            assert_eq!(with(marked).view(0).unwrap()[..], main[PAGE..2 * PAGE]);
+        }
+        assert!(Machine::from_parts(record, other_main, other_swap).run(0).is_ok(), "both alike");
+    }
+    for marks in [0b10, 0b11, 1 << 31] {
+        let mut record = record;
+        record[MARKS] = marks;
+        let mut machine = Machine::from_parts(record, main.clone(), swap.clone());
+        assert_eq!(machine.run(0), Err(Refusal::Unsound), "the marks of unused frames");
+    }
+}
+
 #[test]
 fn parts_that_do_not_fit() {
     let (record, main, swap) = Machine::load(&one_page(), 3).unwrap().into_parts();
@@ -187,7 +236,10 @@ fn parts_that_do_not_fit() {
 
 #[test]
 fn refusals_say_their_number() {
-    assert_eq!(Refusal::Unsound.to_string(), "refused 2: registers, frame book and page table do not agree");
+    assert_eq!(
+        Refusal::Unsound.to_string(),
+        "refused 2: registers, frame book, page table and pages do not agree"
+    );
     let all = [
         Refusal::Bound,
         Refusal::Unsound,

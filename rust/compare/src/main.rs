@@ -14,11 +14,11 @@ impl Engine for Proved {
         calls::load(image, &mut state.main, &mut state.swap, &mut state.words)
     }
 
-    fn run(&mut self, state: &mut State, limit: u32) -> [u32; 5] {
-        let mut answer = [BEFORE; 4];
+    fn run(&mut self, state: &mut State, limit: u32) -> [u32; 6] {
+        let mut answer = [BEFORE; 5];
         let refusal = calls::run(&mut state.words, &mut state.main, &mut state.swap, limit, &mut answer);
-        let [stop, detail, finished, loads] = answer;
-        [refusal, stop, detail, finished, loads]
+        let [stop, detail, finished, loads, copied] = answer;
+        [refusal, stop, detail, finished, loads, copied]
     }
 
     fn host_read(&mut self, state: &mut State, va: u32, buffer: &mut [u8]) -> u32 {
@@ -107,6 +107,7 @@ mod tests {
         assert!(stats.refusals.iter().all(|&count| count > 0), "{stats:?}");
         assert!(stats.stops.iter().all(|&count| count > 0), "{stats:?}");
         assert!(stats.spares.iter().all(|&count| count > 0), "{stats:?}");
+        assert!(0 < stats.copied && stats.copied < stats.loads, "{stats:?}");
     }
 
     #[test]
@@ -170,7 +171,7 @@ mod tests {
         let file =
             [vec![0; PAGE], vec![3], [25u32, 4121, 1, 0, 0, 1].map(u32::to_le_bytes).concat()].concat();
         let (mut main, mut swap) = (vec![0xA5; 3 * PAGE], vec![0x5A; PAGE]);
-        for len in [0, 73, 75, 148] {
+        for len in [0, 74, 76, 150] {
             let mut words = vec![BEFORE; len];
             assert_eq!(calls::load(&file, &mut main, &mut swap, &mut words), 1);
             assert!(words.iter().all(|&word| word == BEFORE));
@@ -183,10 +184,10 @@ mod tests {
             assert!(answer.iter().all(|&word| word == BEFORE));
         }
 
-        let mut record = vec![BEFORE; 74];
+        let mut record = vec![BEFORE; 75];
         assert_eq!(calls::load(&file, &mut main, &mut swap, &mut record), 0);
         let good = (record.clone(), main.clone(), swap.clone());
-        for len in [0, 3, 5] {
+        for len in [0, 4, 6] {
             let mut answer = vec![BEFORE; len];
             assert_eq!(calls::run(&mut record, &mut main, &mut swap, 1, &mut answer), 1);
             assert!(answer.iter().all(|&word| word == BEFORE));
@@ -196,11 +197,11 @@ mod tests {
             assert_eq!(calls::view(&record, &main, &swap, 0, &mut buffer), 1);
             assert!(buffer.iter().all(|&byte| byte == 0xEE));
         }
-        for len in [0, 73, 75] {
+        for len in [0, 74, 76] {
             let mut other = record.clone();
             other.resize(len, 0);
             let before = other.clone();
-            let (mut answer, mut buffer) = ([BEFORE; 4], [0xEE; PAGE]);
+            let (mut answer, mut buffer) = ([BEFORE; 5], [0xEE; PAGE]);
             assert_eq!(calls::run(&mut other, &mut main, &mut swap, 1, &mut answer), 1);
             assert_eq!(calls::read(&other, &main, &swap, 0, &mut buffer[..1]), 1);
             assert_eq!(calls::write(&mut other, &mut main, &mut swap, 0, &[1]), 1);
@@ -218,7 +219,7 @@ mod tests {
         for n in 0..=image.len() {
             for cut in [&image[..n], &image[n..]] {
                 assert_eq!(Proved.read_image(cut), Peer.read_image(cut), "{} bytes", cut.len());
-                let lent = State { words: [7; 74], main: vec![9; 3 * 4096], swap: vec![9; 4096] };
+                let lent = State { words: [7; 75], main: vec![9; 3 * 4096], swap: vec![9; 4096] };
                 let (mut ours, mut theirs) = (lent.clone(), lent);
                 assert_eq!(Proved.load(cut, &mut ours), Peer.load(cut, &mut theirs), "{} bytes", cut.len());
                 assert!(ours == theirs, "{} bytes", cut.len());

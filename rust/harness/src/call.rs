@@ -28,7 +28,7 @@ pub enum Call {
 pub enum Answer {
     Nothing,
     Code(u32),
-    Ran([u32; 5]),
+    Ran([u32; 6]),
     Bytes(u32, Vec<u8>),
     Image(ImageAnswer),
     /// Whether the bits were changed, and what stands there then.
@@ -46,6 +46,9 @@ pub struct Content {
 #[derive(Clone)]
 pub struct Setup {
     pub rec: Record,
+    /// Bit f: the page in frame f has changed, so its swap page is another. Elsewhere they are equal, under a
+    /// mark too; where a frame has changed and has no mark, the machine is not sound.
+    pub changed: u32,
     pub rights: Vec<u8>,
     pub content: Content,
     /// Noise in every byte and bit that has no meaning, if not 0.
@@ -68,6 +71,9 @@ pub enum Edit {
     Word(usize, u32),
     /// The word at a byte address of main memory.
     Main(usize, u32),
+    /// The byte at an address of main memory, and at one of swap.
+    MainByte(usize, u8),
+    SwapByte(usize, u8),
     MainLen(usize),
     SwapLen(usize),
 }
@@ -87,9 +93,20 @@ fn put_word(bytes: &mut [u8], at: usize, word: u32) {
     }
 }
 
+fn put_byte(bytes: &mut [u8], at: usize, byte: u8) {
+    if let Some(place) = bytes.get_mut(at) {
+        *place = byte;
+    }
+}
+
+/// The byte at `at`, or 0 past the end.
+pub fn get_byte(bytes: &[u8], at: usize) -> u8 {
+    *bytes.get(at).unwrap_or(&0)
+}
+
 /// The word at `at`, or 0 past the end.
 pub fn get_word(bytes: &[u8], at: usize) -> u32 {
-    (0..4).map(|i| u32::from(*bytes.get(at + i).unwrap_or(&0)) << (8 * i)).sum()
+    (0..4).map(|i| u32::from(get_byte(bytes, at + i)) << (8 * i)).sum()
 }
 
 impl Setup {
@@ -111,7 +128,9 @@ impl Setup {
                 entry = (rec.abase + f as u32) << 12 | spare & 0xFF8 | bits | 1;
                 let page = &mut swap[base + x * PAGE..][..PAGE];
                 main[(rec.abase as usize + f) * PAGE..][..PAGE].copy_from_slice(page);
-                fill(self.noise, page);
+                if self.changed >> f & 1 == 1 {
+                    fill(self.noise, page);
+                }
             }
             put_word(&mut main, rec.pto as usize + 4 * x, entry);
         }
@@ -137,6 +156,8 @@ impl Edit {
         match *self {
             Edit::Word(index, value) => state.words[index] = value,
             Edit::Main(at, word) => put_word(&mut state.main, at, word),
+            Edit::MainByte(at, byte) => put_byte(&mut state.main, at, byte),
+            Edit::SwapByte(at, byte) => put_byte(&mut state.swap, at, byte),
             Edit::MainLen(len) => state.main.resize(len, 0),
             Edit::SwapLen(len) => state.swap.resize(len, 0),
         }
@@ -147,6 +168,8 @@ impl Edit {
         match *self {
             Edit::Word(index, _) => Edit::Word(index, state.words[index]),
             Edit::Main(at, _) => Edit::Main(at, get_word(&state.main, at)),
+            Edit::MainByte(at, _) => Edit::MainByte(at, get_byte(&state.main, at)),
+            Edit::SwapByte(at, _) => Edit::SwapByte(at, get_byte(&state.swap, at)),
             Edit::MainLen(_) => Edit::MainLen(state.main.len()),
             Edit::SwapLen(_) => Edit::SwapLen(state.swap.len()),
         }
@@ -194,6 +217,12 @@ impl Call {
                 for i in (0..32).filter(|&i| setup.rec.gpr[i] != 0) {
                     let mut less = setup.clone();
                     less.rec.gpr[i] = 0;
+                    list.push(Call::Make(less));
+                }
+                for f in (0..32).filter(|&f| setup.rec.marks >> f & 1 == 1) {
+                    let mut less = setup.clone();
+                    less.rec.marks ^= 1 << f;
+                    less.changed &= less.rec.marks;
                     list.push(Call::Make(less));
                 }
                 if setup.noise != 0 {
@@ -261,7 +290,8 @@ pub fn word_name(index: usize) -> String {
         8..=39 => format!("B[{}]", index - 8),
         40..=71 => format!("GPR {}", index - 40),
         72 => "DPC".into(),
-        _ => "PC'".into(),
+        73 => "PC'".into(),
+        _ => "marks".into(),
     }
 }
 
@@ -307,7 +337,8 @@ impl fmt::Display for Call {
                         write!(f, " {}={value}", word_name(i))?;
                     }
                 }
-                write!(f, " rights={:?} noise={:#x}{}", setup.rights, setup.noise, setup.content)
+                let Setup { changed, rights, content, noise, .. } = &**setup;
+                write!(f, " changed={changed} rights={rights:?} noise={noise:#x}{content}")
             }
             Call::Poke(edits) => {
                 write!(f, "poke")?;

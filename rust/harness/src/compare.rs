@@ -16,6 +16,7 @@ pub struct Stats {
     pub stops: [u64; 5],
     pub finished: u64,
     pub loads: u64,
+    pub copied: u64,
     /// Changes of spare bits that did nothing, and those that were made.
     pub spares: [u64; 2],
 }
@@ -27,7 +28,8 @@ impl fmt::Display for Stats {
         writeln!(f, "{} calls in {} series: no difference", self.calls, self.series)?;
         writeln!(f, "answered {answered}, refused 1 to 7: {refused}")?;
         writeln!(f, "runs by stop 0 to 4: {}", listed(&self.stops))?;
-        writeln!(f, "instructions {}, page loads {}", self.finished, self.loads)?;
+        let (finished, loads, copied) = (self.finished, self.loads, self.copied);
+        writeln!(f, "instructions {finished}, page loads {loads}, pages copied back {copied}")?;
         let [nothing, made] = self.spares;
         write!(f, "spare bits changed {made}, no such page or value {nothing}")
     }
@@ -151,10 +153,11 @@ impl Stats {
             }
         };
         self.refusals[refusal as usize] += 1;
-        if let Answer::Ran([0, stop, _, finished, loads]) = *answer {
+        if let Answer::Ran([0, stop, _, finished, loads, copied]) = *answer {
             self.stops[stop as usize] += 1;
             self.finished += u64::from(finished);
             self.loads += u64::from(loads);
+            self.copied += u64::from(copied);
         }
     }
 }

@@ -2,7 +2,8 @@
 use peer::{Record, WORDS};
 use std::ops::Range;
 
-/// A record, as words in the order P, a, abase, ptl, pto, sbase, b, hand, B, GPR, DPC, PC', and the memories.
+/// A record, as words in the order P, a, abase, ptl, pto, sbase, b, hand, B, GPR, DPC, PC', marks, and the
+/// memories.
 #[derive(Clone, PartialEq, Eq)]
 pub struct State {
     pub words: [u32; WORDS],
@@ -32,8 +33,8 @@ pub struct ImageAnswer {
 pub trait Engine {
     /// Sets `state.words` (to zeros if refused) and both memories.
     fn load(&mut self, image: &[u8], state: &mut State) -> u32;
-    /// Refusal, stop, detail, finished, loads.
-    fn run(&mut self, state: &mut State, limit: u32) -> [u32; 5];
+    /// Refusal, stop, detail, finished, loads, copied.
+    fn run(&mut self, state: &mut State, limit: u32) -> [u32; 6];
     fn host_read(&mut self, state: &mut State, va: u32, buffer: &mut [u8]) -> u32;
     fn host_write(&mut self, state: &mut State, va: u32, bytes: &[u8]) -> u32;
     /// The refusal, and the viewed bytes copied out.
@@ -81,10 +82,10 @@ impl Engine for Peer {
         number(answer)
     }
 
-    fn run(&mut self, state: &mut State, limit: u32) -> [u32; 5] {
+    fn run(&mut self, state: &mut State, limit: u32) -> [u32; 6] {
         match with(state, |rec, main, swap| peer::run(rec, main, swap, limit)) {
-            Ok(ran) => [0, ran.stop, ran.detail, ran.finished, ran.loads],
-            Err(refusal) => [refusal, 0, 0, 0, 0],
+            Ok(ran) => [0, ran.stop, ran.detail, ran.finished, ran.loads, ran.copied],
+            Err(refusal) => [refusal, 0, 0, 0, 0, 0],
         }
     }
 

@@ -1,9 +1,12 @@
 //! Series of calls: machines, images, damage, and what is asked of them.
-use crate::call::{get_word, Answer, Call, Edit, Image, Setup};
+use crate::call::{get_byte, get_word, Answer, Call, Edit, Image, Setup};
 use crate::engine::State;
 use crate::program::{program, rights, value};
 use crate::rng::Rng;
 use peer::Record;
+
+/// Where the marks stand in a record.
+const MARKS: usize = 74;
 
 pub struct Generator {
     rng: Rng,
@@ -34,7 +37,7 @@ impl Generator {
         if stuck && self.rng.one_in(2) {
             return self.resume(&rec);
         }
-        match self.rng.weighted(&[44, 12, 14, 6, 6, 9, 3, 10]) {
+        match self.rng.weighted(&[46, 12, 14, 6, 6, 9, 3, 9]) {
             0 => Call::Run(self.limit(stuck)),
             1 => {
                 let len = self.length();
@@ -42,8 +45,13 @@ impl Generator {
             }
             2 => {
                 let len = self.length();
-                let bytes = (0..len).map(|_| self.rng.word() as u8).collect();
-                Call::Write(self.address(&rec, len), bytes)
+                let va = self.address(&rec, len);
+                let mut bytes: Vec<u8> = (0..len).map(|_| self.rng.word() as u8).collect();
+                if self.rng.one_in(4) {
+                    // What stands there already, where that can be read: a write marks all the same.
+                    let _ = peer::host_read(&rec, &state.main, &state.swap, va, &mut bytes);
+                }
+                Call::Write(va, bytes)
             }
             3 => {
                 let ptl = rec.ptl;
@@ -167,10 +175,13 @@ impl Generator {
 
     /// A machine of any allowed shape, with pages in its frames.
     fn setup(&mut self) -> Call {
-        let ptl = self.ptl();
+        // Seldom all 32 frames hold a page, or all but one: each bit of the marks has a frame.
+        let wide = self.rng.one_in(40);
+        let ptl = if wide { self.rng.range(32, 40) } else { self.ptl() };
         let rng = &self.rng;
         let p = if rng.one_in(30) { rng.pick(&[3, 64]) } else { rng.range(3, 14) };
         let a = if rng.one_in(2) { 2 } else { rng.range(2, 32.min(p - 1)) };
+        let (p, a) = if wide { (rng.range(33, 64), 32) } else { (p, a) };
         let abase = rng.range(1, p - a);
         let room = (4096 * abase - 4 * ptl) / 4;
         let pto = 4 * rng.pick(&[0, room, rng.range(0, room)]);
@@ -179,18 +190,27 @@ impl Generator {
         let (content, starts) = program(rng, &mut rights);
         let (dpc, pcp) = (starts[0], starts[0].wrapping_add(4));
         let mut rec = Record { p, a, abase, ptl, pto, sbase, dpc, pcp, ..Record::default() };
-        for _ in 0..rng.range(0, a) {
-            let page = rng.below(ptl);
-            if !rec.book[..rec.b as usize].contains(&page) {
-                rec.book[rec.b as usize] = page;
-                rec.b += 1;
+        for _ in 0..if wide { rng.range(31, 32) } else { rng.range(0, a).min(ptl) } {
+            let mut page = rng.below(ptl);
+            while rec.book[..rec.b as usize].contains(&page) {
+                page = (page + 1) % ptl;
             }
+            rec.book[rec.b as usize] = page;
+            rec.b += 1;
         }
         rec.hand = if rec.b == a { rng.below(a) } else { 0 };
+        rec.marks = ((1u64 << rec.b) - 1) as u32 & rng.word();
+        let mut changed = rec.marks & rng.pick(&[u32::MAX, u32::MAX, rng.word()]);
+        // Seldom a frame has changed without a mark, or one that holds no page has a mark.
+        match rng.below(40) {
+            0 => changed = rng.word(),
+            1 => rec.marks |= rng.word() & rng.word(),
+            _ => {}
+        }
         rec.gpr[1..].iter_mut().for_each(|gpr| *gpr = value(rng, ptl));
         let noise = if rng.one_in(3) { 0 } else { rng.next() };
         self.starts = starts;
-        Call::Make(Box::new(Setup { rec, rights, content, noise }))
+        Call::Make(Box::new(Setup { rec, changed, rights, content, noise }))
     }
 
     /// A good image.
@@ -244,9 +264,9 @@ impl Generator {
         let x = rng.below(rec.ptl.clamp(1, 1024));
         let entry = |x: u32| rec.pto.wrapping_add(x.wrapping_mul(4)) as usize;
         let old = |x: u32| get_word(&state.main, entry(x));
-        let used = rng.below(rec.b.clamp(1, 32));
+        let used = rng.pick(&[rng.below(rec.b.clamp(1, 32)), rec.b.clamp(1, 32) - 1]);
         let near = |v: u32| rng.pick(&[v.wrapping_add(1), v.wrapping_sub(1), 0, 1, u32::MAX]);
-        match rng.below(11) {
+        match rng.below(14) {
             0..=2 => self.wrong_shape(rec),
             3 => vec![Edit::Word(6, rng.pick(&[near(rec.b), rec.a, rec.a.wrapping_add(1), 32, 33]))],
             4 => vec![Edit::Word(7, rng.pick(&[near(rec.hand), rec.a.wrapping_sub(1), rec.a]))],
@@ -267,7 +287,21 @@ impl Generator {
                 let moved = |x| Edit::Main(entry(x), old(x) ^ 1);
                 vec![moved(rec.book[used as usize]), moved(x)]
             }
-            9 => vec![Edit::Word(rng.pick(&[40, 40, 72, 73]), rng.pick(&[1, 2, 4, 0x8000_0000, x * 4096]))],
+            9 => vec![Edit::Word(MARKS, self.wrong_marks(rec))],
+            10 | 11 => {
+                // One byte of a resident page, in its frame or in swap: right under a mark alone.
+                let inside = rng.pick(&[0, 4095, rng.below(4096), rng.below(4096)]) as usize;
+                let page = |number: u32| (number as usize).wrapping_mul(4096).wrapping_add(inside);
+                let bit = 1 << rng.below(8);
+                vec![if rng.one_in(2) {
+                    let at = page(rec.abase.wrapping_add(used));
+                    Edit::MainByte(at, get_byte(&state.main, at) ^ bit)
+                } else {
+                    let at = page(rec.sbase.wrapping_add(rec.book[used as usize]));
+                    Edit::SwapByte(at, get_byte(&state.swap, at) ^ bit)
+                }]
+            }
+            12 => vec![Edit::Word(rng.pick(&[40, 40, 72, 73]), rng.pick(&[1, 2, 4, 0x8000_0000, x * 4096]))],
             _ => {
                 let swap = rng.one_in(2);
                 let len = if swap { state.swap.len() } else { state.main.len() };
@@ -276,6 +310,24 @@ impl Generator {
                 vec![if swap { Edit::SwapLen(wrong) } else { Edit::MainLen(wrong) }]
             }
         }
+    }
+
+    /// Marks with one frame's set or taken away, at times that of an unused frame, or quite other marks.
+    fn wrong_marks(&self, rec: &Record) -> u32 {
+        let rng = &self.rng;
+        let used = rng.pick(&[rng.below(rec.b.clamp(1, 32)), rec.b.clamp(1, 32) - 1]);
+        let next = rng.pick(&[rec.b, rec.b, rec.a, rng.below(32), 31]);
+        let of = |frame: u32| 1u32.checked_shl(frame).unwrap_or(0);
+        rng.pick(&[
+            rec.marks ^ of(used),
+            rec.marks ^ of(used),
+            rec.marks ^ of(next),
+            rec.marks ^ of(next),
+            0,
+            of(rec.b).wrapping_sub(1),
+            u32::MAX,
+            rng.word(),
+        ])
     }
 
     /// A shape number at, beyond or far beyond a bound; at times the memories follow it.

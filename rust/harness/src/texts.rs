@@ -218,7 +218,8 @@ fn sum(rng: &Rng, value: i64, depth: u32, text: &mut Vec<u8>) {
     let mut left = value;
     for n in 0..terms {
         let last = n + 1 == terms;
-        let far = if rng.one_in(20) { rng.pick(&[2147483647, -2147483647]) } else { i64::from(rng.below(70_000)) };
+        let far =
+            if rng.one_in(20) { rng.pick(&[2147483647, -2147483647]) } else { i64::from(rng.below(70_000)) };
         let part = if last { left } else { rng.pick(&[0, 1, -1, far, -far]) };
         left -= part;
         let minus = n > 0 && rng.one_in(2);

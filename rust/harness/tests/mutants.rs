@@ -12,13 +12,23 @@ type Touch = fn(bool, u32, u32) -> u32;
 /// What the host does to a page's spare bits, and whether it did it.
 type Spare = fn(&Record, &mut [u8], u32, u16) -> bool;
 
+/// What a host write of some bytes does to the marks: the record before, address, length, the record after.
+type Mark = fn(&Record, u32, usize, &mut Record);
+
+/// Puts right what a check does not look at.
+type Blind = fn(&mut Record, &mut [u8], &mut [u8]);
+
 /// The peer, stepped one instruction at a time through `step` and `touch`, its promises checked, or its host
-/// write or its host's `spare` wrong.
+/// write, its check or its host's `spare` wrong.
 #[derive(Default)]
 struct Stepped {
     step: Option<Step>,
     touch: Option<Touch>,
     spare: Option<Spare>,
+    mark: Option<Mark>,
+    blind: Option<Blind>,
+    /// Every page that leaves counts as copied.
+    copies_all: bool,
     /// Spoil every step of this opcode, or of function (code − 64).
     code: Option<u32>,
     write_to_swap: bool,
@@ -41,7 +51,7 @@ fn put_entry(rec: &Record, main: &mut [u8], page: u32, word: u32) {
 }
 
 /// An instruction, with `touch` done to the entries of the pages that it brought in or put out.
-fn touched(touch: Touch, state: &mut State) -> [u32; 5] {
+fn touched(touch: Touch, state: &mut State) -> [u32; 6] {
     let before = Record::from_words(&state.words);
     let table: Vec<u32> = (0..before.ptl).map(|x| entry(&before, &state.main, x)).collect();
     let ran = Peer.run(state, 1);
@@ -61,7 +71,7 @@ fn spares(state: &State) -> Vec<u32> {
 }
 
 impl Stepped {
-    fn one(&self, state: &mut State) -> [u32; 5] {
+    fn one(&self, state: &mut State) -> [u32; 6] {
         let word = word_at_dpc(state);
         let before = Record::from_words(&state.words);
         let ran = match self.touch {
@@ -82,6 +92,24 @@ impl Stepped {
         }
         ran
     }
+
+    /// A machine that is sound but for what `blind` puts right is taken for sound.
+    fn look_away(&self, blind: Blind, state: &mut State) {
+        let mut rec = Record::from_words(&state.words);
+        if rec.check(&state.main, &state.swap) == Err(2) && rec.b <= rec.a {
+            let mut seen = state.clone();
+            blind(&mut rec, &mut seen.main, &mut seen.swap);
+            seen.words = rec.to_words();
+            if rec.check(&seen.main, &seen.swap).is_ok() {
+                *state = seen;
+            }
+        }
+    }
+}
+
+/// The mark of the frame that holds a page, or 0.
+fn mark_of(rec: &Record, page: u32) -> u32 {
+    rec.book[..rec.b as usize].iter().position(|&x| x == page).map_or(0, |f| 1 << f)
 }
 
 /// A refused call and a call that only looks leave everything as it was.
@@ -100,7 +128,11 @@ impl Engine for Stepped {
         refusal
     }
 
-    fn run(&mut self, state: &mut State, limit: u32) -> [u32; 5] {
+    fn run(&mut self, state: &mut State, limit: u32) -> [u32; 6] {
+        if let Some(blind) = self.blind {
+            self.look_away(blind, state);
+        }
+        let used = state.words[6];
         let mut sum = if limit <= 1_000_000 { Peer.run(state, 0) } else { Peer.run(state, limit) };
         let before = if sum[0] == 0 { spares(state) } else { Vec::new() };
         while sum[0] == 0 && sum[1] == 0 && sum[3] < limit {
@@ -108,9 +140,13 @@ impl Engine for Stepped {
             if ran[0] != 0 {
                 return ran; // only a spoiled step makes the machine unsound
             }
-            sum = [0, ran[1], ran[2], sum[3] + ran[3], sum[4] + ran[4]];
+            sum = [0, ran[1], ran[2], sum[3] + ran[3], sum[4] + ran[4], sum[5] + ran[5]];
         }
         assert!(sum[4] <= 2 * sum[3] + u32::from(sum[1] != 0));
+        assert!(sum[5] <= sum[4]);
+        if self.copies_all && sum[0] == 0 {
+            sum[5] = sum[4] - (state.words[6] - used);
+        }
         assert!(sum[0] != 0 || self.touch.is_some() || spares(state) == before);
         sum
     }
@@ -120,8 +156,13 @@ impl Engine for Stepped {
     }
 
     fn host_write(&mut self, state: &mut State, va: u32, bytes: &[u8]) -> u32 {
-        let main = state.main.clone();
+        let (main, before) = (state.main.clone(), Record::from_words(&state.words));
         let refusal = unchanged(state, false, |state| (Peer.host_write(state, va, bytes), ())).0;
+        if let (Some(mark), 0) = (self.mark, refusal) {
+            let mut after = Record::from_words(&state.words);
+            mark(&before, va, bytes.len(), &mut after);
+            state.words = after.to_words();
+        }
         if self.write_to_swap && refusal == 0 && !bytes.is_empty() {
             state.main = main;
             let at = state.words[5] as usize * PAGE + va as usize;
@@ -163,6 +204,7 @@ fn the_peer_is_itself() {
     assert!(stats.refusals.iter().all(|&count| count > 50), "{stats:?}");
     assert!(stats.stops.iter().all(|&count| count > 200), "{stats:?}");
     assert!(stats.loads > 100_000 && stats.finished > 1_000_000, "{stats:?}");
+    assert!(stats.copied > 20_000 && stats.loads - stats.copied > 20_000, "{stats:?}");
     assert!(stats.spares.iter().all(|&count| count > 500), "{stats:?}");
     assert_eq!(stats, compare(1, 40_000, &mut Peer, &mut Peer).unwrap());
 }
@@ -231,13 +273,75 @@ fn wrong_changes_of_spare_bits_are_caught() {
     }
 }
 
+/// A write of at least one byte marks each frame that gets a byte, and no other.
+#[test]
+fn wrong_marks_of_a_host_write_are_caught() {
+    let marks: [(&str, Mark); 5] = [
+        ("no mark is set", |old, _, _, new| new.marks = old.marks),
+        ("the second page gets none", |old, va, _, new| new.marks = old.marks | mark_of(old, va / 4096)),
+        ("the first page gets none", |old, va, len, new| {
+            if len > 0 {
+                new.marks = old.marks | mark_of(old, (va + len as u32 - 1) / 4096);
+            }
+        }),
+        ("length 0 marks", |old, va, len, new| {
+            if len == 0 {
+                new.marks |= mark_of(old, va / 4096);
+            }
+        }),
+        ("a page in swap marks frame 0", |old, va, len, new| {
+            if len > 0 && old.b > 0 && mark_of(old, va / 4096) == 0 {
+                new.marks |= 1;
+            }
+        }),
+    ];
+    for (seed, (name, mark)) in (50..).zip(marks) {
+        let report = caught(seed, Stepped { mark: Some(mark), ..Stepped::default() });
+        assert!(report.starts_with("marks differs") && report.contains("write va="), "{name}: {report}");
+    }
+}
+
+/// The check compares every byte of every page without a mark, and the marks with the frames used.
+#[test]
+fn checks_that_do_not_look_are_caught() {
+    /// Where each page without a mark begins, in main memory and in swap.
+    const UNMARKED: fn(&Record) -> Vec<(usize, usize)> = |rec| {
+        let unmarked = (0..rec.b as usize).filter(|&f| rec.marks >> f & 1 == 0 && rec.book[f] < rec.ptl);
+        unmarked
+            .map(|f| ((rec.abase as usize + f) * PAGE, (rec.sbase + rec.book[f]) as usize * PAGE))
+            .collect()
+    };
+    let blinds: [(&str, Blind); 6] = [
+        ("no byte is compared", |rec, _, _| rec.marks |= ((1u64 << rec.b) - 1) as u32),
+        ("the first byte is not compared", |rec, main, swap| {
+            UNMARKED(rec).into_iter().for_each(|(frame, page)| swap[page] = main[frame]);
+        }),
+        ("the last byte is not compared", |rec, main, swap| {
+            UNMARKED(rec).into_iter().for_each(|(frame, page)| swap[page + 4095] = main[frame + 4095]);
+        }),
+        ("the last frame is not compared", |rec, _, _| rec.marks |= ((1u64 << rec.b) >> 1) as u32),
+        ("a mark of frame b passes", |rec, _, _| rec.marks &= !((1u64 << rec.b) as u32)),
+        ("marks of unused frames pass", |rec, _, _| rec.marks &= ((1u64 << rec.b) - 1) as u32),
+    ];
+    for (seed, (name, blind)) in (60..).zip(blinds) {
+        let report = caught(seed, Stepped { blind: Some(blind), ..Stepped::default() });
+        assert!(report.starts_with("answers differ"), "{name}: {report}");
+    }
+}
+
+#[test]
+fn a_wrong_count_of_copied_pages_is_caught() {
+    let report = caught(70, Stepped { copies_all: true, ..Stepped::default() });
+    assert!(report.starts_with("answers differ"), "{report}");
+}
+
 const OPCODE: fn(u32) -> u32 = |word| word >> 26;
 const RS1: fn(u32, &Record) -> u32 = |word, rec| rec.gpr[(word >> 21 & 31) as usize];
 const RD: fn(u32) -> usize = |word| (word >> 16 & 31) as usize;
 
 #[test]
 fn wrong_steps_are_caught() {
-    let steps: [(&str, Step); 9] = [
+    let steps: [(&str, Step); 13] = [
         ("branch from DPC", |word, old, new| {
             if matches!(OPCODE(word), 2..=5) && new.pcp != old.pcp.wrapping_add(4) {
                 new.pcp = new.pcp.wrapping_sub(old.pcp).wrapping_add(old.dpc);
@@ -272,6 +376,23 @@ fn wrong_steps_are_caught() {
         ("lh not sign extended", |word, _, new| {
             if OPCODE(word) == 33 {
                 new.gpr[RD(word)] &= 0xFFFF;
+            }
+        }),
+        ("a store sets no mark", |word, old, new| {
+            if matches!(OPCODE(word), 40..=43) {
+                new.marks &= old.marks;
+            }
+        }),
+        ("a load from memory sets a mark", |word, old, new| {
+            if matches!(OPCODE(word), 32..=37) {
+                let va = RS1(word, old).wrapping_add(word as i16 as u32);
+                new.marks |= mark_of(new, va / 4096);
+            }
+        }),
+        ("a page load keeps the mark", |_, old, new| new.marks |= old.marks),
+        ("a page load clears all marks", |word, old, new| {
+            if old.book != new.book && !matches!(OPCODE(word), 40..=43) {
+                new.marks = 0;
             }
         }),
         ("untaken branch has no delay slot", |word, old, new| {

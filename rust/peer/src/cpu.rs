@@ -1,5 +1,5 @@
 //! The instructions, one attempt, and the run.
-use crate::paging::{Access, Machine, Place, VirtualPage};
+use crate::paging::{Access, Machine, MainPage, Place, VirtualPage};
 use crate::{refusal, stop, word_at, Record, MAX_RUN, PAGE};
 
 /// What a run returns.
@@ -9,6 +9,8 @@ pub struct Ran {
     pub detail: u32,
     pub finished: u32,
     pub loads: u32,
+    /// "pages copied back": the loads whose victim was marked.
+    pub copied: u32,
 }
 
 /// Runs at most `limit` instructions.
@@ -18,21 +20,21 @@ pub fn run(rec: &mut Record, main: &mut [u8], swap: &mut [u8], limit: u32) -> Re
         return Err(refusal::RANGE);
     }
     let mut machine = Machine { rec, main, swap };
-    let (mut finished, mut loads) = (0, 0);
+    let (mut finished, mut loads, mut copied) = (0, 0, 0);
     while finished < limit {
         match machine.attempt() {
             Ok(None) => finished += 1,
             Ok(Some(detail)) => {
-                return Ok(Ran { stop: stop::TRAP, detail, finished: finished + 1, loads });
+                return Ok(Ran { stop: stop::TRAP, detail, finished: finished + 1, loads, copied });
             }
             Err(Halt::Fault(page)) => {
-                machine.load_page(page);
+                copied += u32::from(machine.load_page(page));
                 loads += 1;
             }
-            Err(Halt::Stop(stop, detail)) => return Ok(Ran { stop, detail, finished, loads }),
+            Err(Halt::Stop(stop, detail)) => return Ok(Ran { stop, detail, finished, loads, copied }),
         }
     }
-    Ok(Ran { stop: stop::LIMIT, detail: 0, finished, loads })
+    Ok(Ran { stop: stop::LIMIT, detail: 0, finished, loads, copied })
 }
 
 /// Why an attempt did not finish its instruction: a page is not there, or a stop and its detail.
@@ -72,6 +74,7 @@ impl Machine<'_> {
             Some(Effect::Store { va, width, value }) => {
                 let at = self.locate(va, width, Access::Write)?;
                 store(self.main, at, width, value);
+                self.rec.mark(MainPage::of(at));
             }
             Some(Effect::Trap(number)) => trap = Some(number),
         }

@@ -17,12 +17,21 @@ pub fn host_read(rec: &Record, main: &[u8], swap: &[u8], va: u32, buffer: &mut [
     Ok(())
 }
 
-/// Writes `bytes` to the guest's memory from `va` on.
-pub fn host_write(rec: &Record, main: &mut [u8], swap: &mut [u8], va: u32, bytes: &[u8]) -> Result<(), u32> {
+/// Writes `bytes` to the guest's memory from `va` on, and marks the frames that get one.
+pub fn host_write(
+    rec: &mut Record,
+    main: &mut [u8],
+    swap: &mut [u8],
+    va: u32,
+    bytes: &[u8],
+) -> Result<(), u32> {
     check(rec, main, swap, va, bytes.len(), Access::Write)?;
     for piece in pieces(va, bytes.len()) {
         let goal = match rec.place(main, piece.page, Access::Write) {
-            Some(Place::Main(page)) => &mut main[page.bytes()],
+            Some(Place::Main(page)) => {
+                rec.mark(page);
+                &mut main[page.bytes()]
+            }
             Some(Place::Swap(page)) => &mut swap[page.bytes()],
             None => return Err(refusal::ACCESS),
         };

@@ -1,4 +1,4 @@
-//! The paged DLX console machine of document 01, in plain safe Rust, and the makers' notation of document 02.
+//! The paged DLX console machine of documents 01 and 02, in plain safe Rust, and the makers' notation of 02.
 //!
 //! It is written from the documents alone and is the independent reading against which another
 //! implementation is compared, and the baseline of its benchmarks. Quoted sentences are the document's.

@@ -21,6 +21,10 @@ impl VirtualPage {
 }
 
 impl MainPage {
+    pub fn of(address: usize) -> Self {
+        MainPage((address / PAGE) as u32)
+    }
+
     pub fn bytes(self) -> Range<usize> {
         let start = self.0 as usize * PAGE;
         start..start + PAGE
@@ -85,12 +89,26 @@ impl Record {
         (self.pto + 4 * x.0) as usize
     }
 
-    fn swap_page(&self, x: VirtualPage) -> SwapPage {
+    pub(crate) fn swap_page(&self, x: VirtualPage) -> SwapPage {
         SwapPage(self.sbase + x.0)
     }
 
-    fn frame(&self, f: u32) -> MainPage {
+    pub(crate) fn frame(&self, f: u32) -> MainPage {
         MainPage(self.abase + f)
+    }
+
+    pub(crate) fn is_marked(&self, frame: MainPage) -> bool {
+        self.marks >> (frame.0 - self.abase) & 1 == 1
+    }
+
+    /// "set by a guest store and by a host write of at least one byte".
+    pub(crate) fn mark(&mut self, frame: MainPage) {
+        self.marks |= 1 << (frame.0 - self.abase);
+    }
+
+    /// "cleared by a load".
+    fn unmark(&mut self, frame: MainPage) {
+        self.marks &= !(1 << (frame.0 - self.abase));
     }
 
     /// The entry of page x, if the table covers it.
@@ -117,28 +135,34 @@ pub(crate) struct Machine<'m> {
 }
 
 impl Machine<'_> {
-    /// "The handler loads page y."
-    pub fn load_page(&mut self, y: VirtualPage) {
-        let f = self.empty_frame();
+    /// "The handler loads page y." Whether a page was copied back to swap for it.
+    pub fn load_page(&mut self, y: VirtualPage) -> bool {
+        let (f, copied) = self.empty_frame();
         let frame = self.rec.frame(f);
         self.main[frame.bytes()].copy_from_slice(&self.swap[self.rec.swap_page(y).bytes()]);
         self.rec.book[f as usize] = y.0;
+        self.rec.unmark(frame);
         self.change_entry(y, |entry| entry.resident(frame));
+        copied
     }
 
-    /// A frame for the next page: an unused one, else the one at the hand, whose page leaves.
-    fn empty_frame(&mut self) -> u32 {
+    /// A frame for the next page: an unused one, else the one at the hand, whose page leaves. Whether that
+    /// page was copied back: "An unmarked victim is not copied."
+    fn empty_frame(&mut self) -> (u32, bool) {
         let rec = &mut *self.rec;
         if rec.b < rec.a {
             rec.b += 1;
-            return rec.b - 1;
+            return (rec.b - 1, false);
         }
         let f = rec.hand;
         rec.hand = (f + 1) % rec.a;
         let x = VirtualPage(rec.book[f as usize]);
-        self.swap[rec.swap_page(x).bytes()].copy_from_slice(&self.main[rec.frame(f).bytes()]);
+        let copied = rec.is_marked(rec.frame(f));
+        if copied {
+            self.swap[rec.swap_page(x).bytes()].copy_from_slice(&self.main[rec.frame(f).bytes()]);
+        }
         self.change_entry(x, Entry::absent);
-        f
+        (f, copied)
     }
 
     fn change_entry(&mut self, x: VirtualPage, change: impl Fn(Entry) -> Entry) {

@@ -2,7 +2,7 @@ use crate::paging::{MainPage, VirtualPage};
 use crate::{refusal, PAGE};
 
 /// The number of words in a record.
-pub const WORDS: usize = 74;
+pub const WORDS: usize = 75;
 
 /// All that belongs to a machine besides its two lent memories.
 #[derive(Clone, Debug, Default, PartialEq, Eq)]
@@ -29,17 +29,19 @@ pub struct Record {
     pub dpc: u32,
     /// PC'.
     pub pcp: u32,
+    /// "a mark per frame": bit f is the mark of frame f.
+    pub marks: u32,
 }
 
 impl Record {
-    /// P, a, abase, ptl, pto, sbase, b, hand, B, GPR, DPC, PC'.
+    /// P, a, abase, ptl, pto, sbase, b, hand, B, GPR, DPC, PC', marks.
     pub fn to_words(&self) -> [u32; WORDS] {
         let mut words = [0; WORDS];
         let numbers = [self.p, self.a, self.abase, self.ptl, self.pto, self.sbase, self.b, self.hand];
         words[..8].copy_from_slice(&numbers);
         words[8..40].copy_from_slice(&self.book);
         words[40..72].copy_from_slice(&self.gpr);
-        words[72..].copy_from_slice(&[self.dpc, self.pcp]);
+        words[72..].copy_from_slice(&[self.dpc, self.pcp, self.marks]);
         words
     }
 
@@ -47,14 +49,15 @@ impl Record {
         let [p, a, abase, ptl, pto, sbase, b, hand, ..] = *words;
         let book = std::array::from_fn(|i| words[8 + i]);
         let gpr = std::array::from_fn(|i| words[40 + i]);
-        Record { p, a, abase, ptl, pto, sbase, b, hand, book, gpr, dpc: words[72], pcp: words[73] }
+        let [dpc, pcp, marks] = [words[72], words[73], words[74]];
+        Record { p, a, abase, ptl, pto, sbase, b, hand, book, gpr, dpc, pcp, marks }
     }
 
     /// Refusal 1 or 2, if one of them applies.
     pub fn check(&self, main: &[u8], swap: &[u8]) -> Result<(), u32> {
         if !self.in_bounds(main.len(), swap.len()) {
             Err(refusal::SHAPE)
-        } else if !self.is_sound(main) {
+        } else if !self.is_sound(main, swap) {
             Err(refusal::UNSOUND)
         } else {
             Ok(())
@@ -79,7 +82,7 @@ impl Record {
     }
 
     /// "A machine is sound when": for a machine whose shape is in bounds.
-    fn is_sound(&self, main: &[u8]) -> bool {
+    fn is_sound(&self, main: &[u8], swap: &[u8]) -> bool {
         if self.gpr[0] != 0 || self.b > self.a {
             return false;
         }
@@ -94,6 +97,15 @@ impl Record {
             && (1..used.len()).all(|i| !used[..i].contains(&used[i]))
             && used.iter().zip(self.abase..).all(resident)
             && self.valid_entries(main) == used.len()
+            && self.marks_are_true(main, swap)
+    }
+
+    /// "an unmarked resident page equals its swap page", and "marks of unused frames are clear": for a book
+    /// that holds pages of the table.
+    fn marks_are_true(&self, main: &[u8], swap: &[u8]) -> bool {
+        let same = |f, x| main[self.frame(f).bytes()] == swap[self.swap_page(VirtualPage(x)).bytes()];
+        u64::from(self.marks) >> self.b == 0
+            && (0..self.b).zip(self.book).all(|(f, x)| self.is_marked(self.frame(f)) || same(f, x))
     }
 
     fn valid_entries(&self, main: &[u8]) -> usize {

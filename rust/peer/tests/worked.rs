@@ -1,4 +1,4 @@
-//! Every worked value of document 01, through the public calls alone.
+//! Every worked value of document 01, and the marks of document 02, through the public calls alone.
 use peer::*;
 
 const ADDI: u32 = 0x2401_0007; // addi 1,0,7
@@ -40,7 +40,7 @@ impl Guest {
     }
 
     fn write(&mut self, va: u32, bytes: &[u8]) -> Result<(), u32> {
-        host_write(&self.rec, &mut self.main, &mut self.swap, va, bytes)
+        host_write(&mut self.rec, &mut self.main, &mut self.swap, va, bytes)
     }
 }
 
@@ -58,7 +58,7 @@ fn one(word: u32, set: &[(usize, u32)]) -> ([u32; 32], Ran, Guest) {
 fn words_mean_what_they_should() {
     let (gpr, ran, guest) = one(ADDI, &[]);
     assert_eq!((gpr[1], gpr.iter().sum::<u32>()), (7, 7));
-    assert_eq!(ran, Ran { stop: 0, detail: 0, finished: 1, loads: 1 });
+    assert_eq!(ran, Ran { stop: 0, detail: 0, finished: 1, loads: 1, copied: 0 });
     assert_eq!((guest.rec.dpc, guest.rec.pcp), (4, 8));
 
     let (_, ran, guest) = one(SW, &[(1, 0x0102_0304)]);
@@ -67,7 +67,7 @@ fn words_mean_what_they_should() {
     assert_eq!((ran.finished, bytes), (1, [0, 4, 3, 2, 1, 0]));
 
     let (_, ran, guest) = one(TRAP5, &[]);
-    assert_eq!(ran, Ran { stop: 1, detail: 5, finished: 1, loads: 1 });
+    assert_eq!(ran, Ran { stop: 1, detail: 5, finished: 1, loads: 1, copied: 0 });
     assert_eq!((guest.rec.dpc, guest.rec.pcp), (4, 8));
 
     let (gpr, _, guest) = one(0, &[(3, 9)]);
@@ -91,8 +91,8 @@ fn arithmetic() {
 #[test]
 fn the_table_ends_at_ptl() {
     let lbu = 36 << 26 | 1 << 21 | 3 << 16;
-    assert_eq!(one(lbu, &[(1, 8191)]).1, Ran { stop: 0, detail: 0, finished: 1, loads: 2 });
-    assert_eq!(one(lbu, &[(1, 8192)]).1, Ran { stop: 2, detail: 8192, finished: 0, loads: 1 });
+    assert_eq!(one(lbu, &[(1, 8191)]).1, Ran { stop: 0, detail: 0, finished: 1, loads: 2, copied: 0 });
+    assert_eq!(one(lbu, &[(1, 8192)]).1, Ran { stop: 2, detail: 8192, finished: 0, loads: 1, copied: 0 });
     let guest = Guest::new(&[3, 3], 2, &[]);
     assert_eq!(guest.read(8191, &mut [0]), Ok(()));
     assert_eq!(guest.read(8191, &mut [0, 0]), Err(3));
@@ -105,7 +105,7 @@ fn the_table_ends_at_ptl() {
 #[test]
 fn neither_valid_nor_readable_is_illegal() {
     let mut guest = Guest::new(&[3, 2], 2, &[(0, 35 << 26 | 4096)]);
-    let again = Ran { stop: 2, detail: 4096, finished: 0, loads: 0 };
+    let again = Ran { stop: 2, detail: 4096, finished: 0, loads: 0, copied: 0 };
     assert_eq!(guest.run(5), Ok(Ran { loads: 1, ..again }));
     assert_eq!(guest.run(5), Ok(again));
     assert_eq!(guest.rec.b, 1);
@@ -115,7 +115,7 @@ fn neither_valid_nor_readable_is_illegal() {
 fn four_loads_where_three_would_do() {
     let lw = |va: u32| 35 << 26 | 1 << 16 | va;
     let mut guest = Guest::new(&[1; 3], 2, &[(0, lw(4096)), (4, lw(8192))]);
-    assert_eq!(guest.run(2), Ok(Ran { stop: 0, detail: 0, finished: 2, loads: 4 }));
+    assert_eq!(guest.run(2), Ok(Ran { stop: 0, detail: 0, finished: 2, loads: 4, copied: 0 }));
     assert_eq!((&guest.rec.book[..3], guest.rec.hand, guest.rec.b), (&[2, 0, 0][..], 0, 2));
 }
 
@@ -157,7 +157,10 @@ fn a_write_across_two_places_moves_with_its_pages() {
 #[test]
 fn bounds() {
     let mut guest = Guest::new(&[3], 2, &[(0, 2 << 26 | 0x03FF_FFFC)]); // j to itself
-    assert_eq!(guest.run(1_000_000), Ok(Ran { stop: 0, detail: 0, finished: 1_000_000, loads: 1 }));
+    assert_eq!(
+        guest.run(1_000_000),
+        Ok(Ran { stop: 0, detail: 0, finished: 1_000_000, loads: 1, copied: 0 })
+    );
     assert_eq!(guest.run(1_000_001), Err(4));
     assert_eq!(guest.write(0, &[0; 256]), Ok(()));
     assert_eq!(guest.write(0, &[0; 257]), Err(4));
@@ -228,6 +231,120 @@ fn spare_bits_are_those_of_an_entry() {
     }
     assert!(guest.main == main);
     assert!(set_spare(&rec, &mut guest.main, 0, 0) && guest.main == main, "ppx, r, w and v stay");
+}
+
+/// sw 2,0(1)
+const STORE: u32 = 43 << 26 | 1 << 21 | 2 << 16;
+
+/// "set by a guest store": of the frame that it stores to, with equal bytes too, once it is carried out.
+#[test]
+fn a_store_marks_its_frame() {
+    let mut guest = Guest::new(&[3, 3, 1], 3, &[(0, STORE), (4, STORE), (8, 35 << 26 | 1 << 21)]);
+    let step = |guest: &mut Guest, va: u32| {
+        reply(&mut guest.rec, 1, va).unwrap();
+        let ran = guest.run(1).unwrap();
+        (ran.stop, ran.loads, guest.rec.marks)
+    };
+    assert_eq!(guest.run(0).map(|_| guest.rec.marks), Ok(0));
+    assert_eq!(step(&mut guest, 4096), (0, 2, 0b10), "a zero over zeros");
+    assert_eq!(step(&mut guest, 8192), (2, 0, 0b10), "no right to write");
+    assert_eq!(step(&mut guest, 1), (3, 0, 0b10), "misaligned");
+    assert_eq!(step(&mut guest, 60), (0, 0, 0b11));
+    assert_eq!(step(&mut guest, 8192), (0, 1, 0b11), "a load from memory");
+}
+
+/// "by a host write of at least one byte": of each resident page that gets a byte.
+#[test]
+fn a_host_write_marks_the_frames_that_get_a_byte() {
+    let fresh = || {
+        let mut guest = Guest::new(&[3, 3, 1], 3, &[(0, 35 << 26 | 1 << 21 | 4096)]);
+        assert_eq!(guest.run(1).map(|ran| (ran.loads, guest.rec.marks)), Ok((2, 0)));
+        guest
+    };
+    for (va, bytes, answer, marks) in [
+        (100, &[][..], Ok(()), 0),
+        (4095, &[1], Ok(()), 0b01),
+        (4095, &[0, 0], Ok(()), 0b11),
+        (4096, &[0], Ok(()), 0b10),
+        (8191, &[1, 1], Err(3), 0),
+        (4000, &[1; 257], Err(4), 0),
+    ] {
+        let mut guest = fresh();
+        assert_eq!((guest.write(va, bytes), guest.rec.marks), (answer, marks), "{} at {va}", bytes.len());
+        assert_eq!(guest.read(va, &mut [0]), Ok(()));
+        assert_eq!(guest.rec.marks, marks);
+    }
+    let mut in_swap = Guest::new(&[3], 2, &[]);
+    assert_eq!((in_swap.write(0, &[1]), in_swap.rec.marks), (Ok(()), 0));
+}
+
+/// "An unmarked victim is not copied", a mark is "cleared by a load", and "pages copied back" are reported.
+#[test]
+fn only_marked_pages_are_copied_back() {
+    let mut guest = Guest::new(&[3; 4], 2, &[]);
+    let fetch = |guest: &mut Guest, page: u32| {
+        (guest.rec.dpc, guest.rec.pcp) = (4096 * page, 4096 * page + 4);
+        let ran = guest.run(1).unwrap();
+        (ran.loads, ran.copied, guest.rec.marks)
+    };
+    assert_eq!([0, 1].map(|page| fetch(&mut guest, page)), [(1, 0, 0); 2]);
+    guest.write(4096 + 9, &[7]).unwrap();
+    assert_eq!(guest.rec.marks, 0b10);
+    assert_eq!(fetch(&mut guest, 2), (1, 0, 0b10), "page 0 leaves");
+    assert_eq!(guest.swap[4096 + 9], 0);
+    assert_eq!(fetch(&mut guest, 3), (1, 1, 0), "page 1 leaves");
+    assert_eq!(guest.swap[4096 + 9], 7);
+    assert_eq!([0, 1].map(|page| fetch(&mut guest, page)), [(1, 0, 0); 2]);
+    assert_eq!(guest.main[8192 + 9], 7);
+}
+
+/// "a book that breaks the new rule is refused 2".
+#[test]
+fn marks_are_part_of_soundness() {
+    let mut guest = Guest::new(&[3; 3], 3, &[(0, 35 << 26 | 1 << 21 | 4096)]);
+    guest.run(1).unwrap();
+    let mut try_marks = |marks: u32, main: Option<usize>| {
+        if let Some(at) = main {
+            guest.main[at] ^= 1;
+        }
+        guest.rec.marks = marks;
+        let answer = guest.run(0).err();
+        if let Some(at) = main {
+            guest.main[at] ^= 1;
+        }
+        answer
+    };
+    for marks in 0..4 {
+        assert_eq!(try_marks(marks, None), None, "a marked page may equal its swap page");
+    }
+    for marks in [4, 5, 8, 1 << 31, u32::MAX] {
+        assert_eq!(try_marks(marks, None), Some(2), "marks {marks}");
+    }
+    for at in [0, 1, 2047, 4095] {
+        assert_eq!(
+            [0, 1, 2, 3].map(|marks| try_marks(marks, Some(4096 + at))),
+            [Some(2), None, Some(2), None]
+        );
+        assert_eq!(
+            [0, 1, 2, 3].map(|marks| try_marks(marks, Some(8192 + at))),
+            [Some(2), Some(2), None, None]
+        );
+    }
+    assert_eq!(try_marks(0, Some(3 * 4096)), None, "a frame that holds no page");
+
+    // All 32 frames in use: there is no unused mark.
+    let (mut main, mut swap) = (vec![0; 33 * PAGE], vec![0; 32 * PAGE]);
+    let mut rec = load(&image(&[3; 32], 0, 32, &[]), &mut main, &mut swap).unwrap();
+    for page in 0..32 {
+        (rec.dpc, rec.pcp) = (4096 * page, 4096 * page + 4);
+        run(&mut rec, &mut main, &mut swap, 1).unwrap();
+    }
+    rec.marks = u32::MAX;
+    assert_eq!(run(&mut rec, &mut main, &mut swap, 0), Ok(Ran::default()));
+    main[32 * PAGE] = 1;
+    assert_eq!(run(&mut rec, &mut main, &mut swap, 0), Ok(Ran::default()));
+    rec.marks = u32::MAX >> 1;
+    assert_eq!(run(&mut rec, &mut main, &mut swap, 0), Err(2));
 }
 
 #[test]

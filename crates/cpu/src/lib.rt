@@ -4,7 +4,6 @@ pub mod code;
 
 use crate::access::Reached;
 use crate::code::CodePage;
-use dlx::alu;
 use dlx::decode;
 use model::Outcome;
 use model::Pcs;

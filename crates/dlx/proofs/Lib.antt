@@ -1,4 +1,3 @@
 -- Laws that the proofs of the functions cite.
-pub mod Words
 pub mod Unknown
 pub mod Fields

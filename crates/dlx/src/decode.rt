@@ -1,6 +1,6 @@
 // The tables of "Instructions": what an instruction word asks for.
-use crate::alu;
-use crate::alu::Value;
+use crate::functions;
+use crate::functions::Value;
 use model::Plan;
 ghost use mathlib.Core.Path.{_≡_};
 ghost use Prim.Native.Nat.{_<_};
@@ -169,7 +169,7 @@ fn store_word(g: &[u32; 32], w: u32) -> Plan
 fn function(g: &[u32; 32], next: u32, w: u32) -> Plan
     ensures { λ r. ⌜ r ≡ model.register next w (model.reg (now (g .entry)) (model.rs1 w)) (model.reg (now (g .entry)) (model.rs2 w)) ⌝ }
 {
-    let v = alu::function(w, first(g, w), second(g, w));
+    let v = functions::function(w, first(g, w), second(g, w));
     match v {
         Value::Is(x) => set(next, w / 2048 % 32, x),
         Value::Unknown => Plan::Unknown,

@@ -1,3 +1,3 @@
 // Decodes an instruction word and computes what it asks for, by the tables of "Instructions". It does not touch memory.
-pub mod alu;
 pub mod decode;
+pub mod functions;

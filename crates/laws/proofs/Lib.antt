@@ -5,6 +5,7 @@ pub mod Numbers
 pub mod Bytes
 pub mod Parts
 pub mod Marks
+pub mod Shift
 pub mod Seated
 pub mod Entries
 pub mod Table

@@ -13,7 +13,7 @@ use Rattle.model.specs.Words.{field}
 use Rattle.model.specs.Frames.{marked, withMark, withoutMark}
 
 -- ---- single bits
-or-bit : (a b f : ℕ) → field f 1 (bitOr a b) ≡ bitOr (field f 1 a) (field f 1 b)
+pub or-bit : (a b f : ℕ) → field f 1 (bitOr a b) ≡ bitOr (field f 1 a) (field f 1 b)
 or-bit a b f = ap (λ (x : ℕ). x % 2) (or-shr a b f) ∙ or-mod (a / 2 ^ f) (b / 2 ^ f) 1
 
 and-bit : (a b f : ℕ) → field f 1 (bitAnd a b) ≡ bitAnd (field f 1 a) (field f 1 b)

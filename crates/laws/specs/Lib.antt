@@ -6,3 +6,4 @@ pub mod Demand2
 pub mod Named
 pub mod Formed
 pub mod Over
+pub mod Shift

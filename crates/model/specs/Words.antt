@@ -2,6 +2,7 @@
 use mathlib.Core.Bool.{Bool, not}
 use Prim.Native.Nat.{ℕ, _+_, _-_, _*_, _/_, _%_, _^_}
 use lib.Dec.{ltb, eqb}
+use lib.Bits.{bitOr}
 use Rattle.model.specs.Choice.{if_then_else_}
 
 abbrev pub plus : ℕ → ℕ → ℕ
@@ -31,9 +32,17 @@ shiftLeft x n = x * 2 ^ n % 2 ^ 32
 abbrev pub shiftRight : ℕ → ℕ → ℕ
 shiftRight x n = x / 2 ^ n
 
--- the n bits that come in at the top are copies of bit 31
+-- the n top bits, all ones: those that a word of ones loses by a shift right
+abbrev pub topOnes : ℕ → ℕ
+topOnes n = 2 ^ 32 - 1 - shiftRight (2 ^ 32 - 1) n
+
+-- n copies of bit 31 of x, at the top
+abbrev pub fill : ℕ → ℕ → ℕ
+fill x n = if eqb (field 31 1 x) 1 then topOnes n else 0
+
+-- "an unsigned shift with the top bits filled from bit 31"
 abbrev pub shiftSigned : ℕ → ℕ → ℕ
-shiftSigned x n = if ltb x (2 ^ 31) then x / 2 ^ n else x / 2 ^ n + (2 ^ 32 - 2 ^ (32 - n))
+shiftSigned x n = bitOr (shiftRight x n) (fill x n)
 
 -- "RD = 1 or 0"
 abbrev pub bit : Bool → ℕ

@@ -207,6 +207,17 @@ pub worked : T (every (
     ∷ (planned (plan (registers (2 ^ 31) 1) 4 0x00201829) is 1 ∷ 3 ∷ 0 ∷ 8 ∷ [])
     ∷ (planned (plan (registers 0x80000000 1) 4 0x00201FC3) is 1 ∷ 3 ∷ 0xFFFFFFFF ∷ 8 ∷ [])
     ∷ (planned (plan (registers 0xFFFFFFFC 1) 4 0x8C220008) is 2 ∷ 4 ∷ 2 ∷ 4 ∷ [])
+    -- srai 3,1,n of a word whose bit 31 is set, and of one where it is clear: n = 0, 4 and 31; 0x00201803 is srai 3,1,0
+    ∷ (planned (plan (registers 0x87654321 1) 4 0x00201803) is 1 ∷ 3 ∷ 0x87654321 ∷ 8 ∷ [])
+    ∷ (planned (plan (registers 0x87654321 1) 4 0x00201903) is 1 ∷ 3 ∷ 0xF8765432 ∷ 8 ∷ [])
+    ∷ (planned (plan (registers 0x87654321 1) 4 0x00201FC3) is 1 ∷ 3 ∷ 0xFFFFFFFF ∷ 8 ∷ [])
+    ∷ (planned (plan (registers 0x7654321F 1) 4 0x00201803) is 1 ∷ 3 ∷ 0x7654321F ∷ 8 ∷ [])
+    ∷ (planned (plan (registers 0x7654321F 1) 4 0x00201903) is 1 ∷ 3 ∷ 0x07654321 ∷ 8 ∷ [])
+    ∷ (planned (plan (registers 0x7654321F 1) 4 0x00201FC3) is 1 ∷ 3 ∷ 0 ∷ 8 ∷ [])
+    -- sra 3,1,2 goes by RS2 mod 32: by 36, which is 4, by 32, which is 0, and by 31
+    ∷ (planned (plan (registers 0x87654321 36) 4 0x00221807) is 1 ∷ 3 ∷ 0xF8765432 ∷ 8 ∷ [])
+    ∷ (planned (plan (registers 0x87654321 32) 4 0x00221807) is 1 ∷ 3 ∷ 0x87654321 ∷ 8 ∷ [])
+    ∷ (planned (plan (registers 0x7654321F 31) 4 0x00221807) is 1 ∷ 3 ∷ 0 ∷ 8 ∷ [])
     -- a = 2, limit 2: finished 2, loads 4, B = 2, 0, hand 0; nothing was stored, so nothing is copied or marked
     ∷ (counted (runCall two-loads 2) is 0 ∷ 0 ∷ 0 ∷ 2 ∷ 4 ∷ 0 ∷ [])
     ∷ (booked (runCall two-loads 2) is 2 ∷ 0 ∷ 0 ∷ 0 ∷ [])

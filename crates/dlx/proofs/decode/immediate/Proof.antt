@@ -1,7 +1,7 @@
 -- `immediate` is the table of opcodes, row by row.
 use native.Mathlib.Omega.{arith}
 use Rattle.model.specs.Instruction.{immediate}
-use Rattle.dlx.proofs.Words.{compared-never, compared-always, if-not}
+use Rattle.alu.proofs.Words.{compared-never, compared-always, if-not}
 use Rattle.dlx.proofs.Unknown.{unknown-opcode}
 use borrow.Author.Needs.{needs}
 use Rattle.dlx.proofs.decode.immediate.Statement.{statement}

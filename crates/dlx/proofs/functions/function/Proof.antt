@@ -1,10 +1,10 @@
 -- `function` is the table of the functions under opcode 0, row by row.
 use Rattle.model.specs.Instruction.{register}
-use Rattle.dlx.proofs.Words.{compared-never, compared-always}
+use Rattle.alu.proofs.Words.{compared-never, compared-always}
 use Rattle.dlx.proofs.Unknown.{unknown-function}
 use borrow.Author.Needs.{needs}
-use Rattle.dlx.proofs.alu.function.Statement.{statement}
-use Rattle.dlx.proofs.alu.function.Tie as tie
+use Rattle.dlx.proofs.functions.function.Statement.{statement}
+use Rattle.dlx.proofs.functions.function.Tie as tie
 
 returns : tie.Need-returns
 unfolding register

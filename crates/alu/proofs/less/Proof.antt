@@ -4,8 +4,8 @@ use Prim.Native.Nat.{_^_}
 use native.Mathlib.Omega.{arith}
 use Rattle.model.specs.Words.{plus}
 use borrow.Author.Needs.{needs}
-use Rattle.dlx.proofs.alu.less.Statement.{statement}
-use Rattle.dlx.proofs.alu.less.Tie as tie
+use Rattle.alu.proofs.less.Statement.{statement}
+use Rattle.alu.proofs.less.Tie as tie
 
 returns : tie.Need-returns
 returns c =

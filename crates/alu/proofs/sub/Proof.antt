@@ -1,7 +1,7 @@
 -- `sub` is the difference that goes round.
 use borrow.Author.Needs.{needs}
-use Rattle.dlx.proofs.alu.sub.Statement.{statement}
-use Rattle.dlx.proofs.alu.sub.Tie as tie
+use Rattle.alu.proofs.sub.Statement.{statement}
+use Rattle.alu.proofs.sub.Tie as tie
 
 returns : tie.Need-returns
 returns c = search needs

@@ -1,16 +1,14 @@
--- Laws of words: sign extension by a wrapping sum and difference, the signed comparisons, the signed shift.
-use mathlib.Core.Path.{_≡_, refl, sym, ap, _∙_}
+-- Laws of words: sign extension by a wrapping sum and difference, the signed comparisons.
+use mathlib.Core.Path.{_≡_, refl, ap, _∙_}
 use mathlib.Core.Bool.{Bool, true, false, not}
 use Prim.Native.Nat.{ℕ, _+_, _-_, _*_, _/_, _%_, _^_, _≤_, _<_}
 use native.Mathlib.Omega.{arith}
-use native.Mathlib.Nat.{div-add-mod', mod-lt, mod-eq-of-lt, mod-eq-sub-mod, add-mul, one-mul, div-lt-iff-lt-mul}
+use native.Mathlib.Nat.{mod-eq-of-lt, mod-eq-sub-mod}
 use native.Mathlib.Decide.{decLt}
 use borrow.Author.Tests.{lt-ltb, le-ltb, ltb-true, ltb-false, eq-eqb, ne-eqb, eqb-true}
 use lib.Dec.{ltb, eqb}
-use lib.Arith.{digits-div}
-use lib.Pow.{pow-pos, pow-add, pow-mono}
 use Rattle.model.specs.Choice.{if_then_else_, everyBelow}
-use Rattle.model.specs.Words.{plus, below, shiftSigned, compared}
+use Rattle.model.specs.Words.{plus, below, compared}
 use Rattle.laws.proofs.Choice.{every-at}
 
 -- ---- sign extension of x, a number below 2h: h is added, the bits above are left out, and h is taken away
@@ -73,24 +71,3 @@ compared-always x y = refl
 pub if-not : (b : Bool) (m n : ℕ) → (if not b then m else n) ≡ (if b then n else m)
 if-not true m n = refl
 if-not false m n = refl
-
--- ---- the complement of a word, shifted, is the complement of the shift with ones at the top
-pub shifted-high : (x n : ℕ) → n < 32 → x < 2 ^ 32 → 2 ^ 31 ≤ x → 4294967295 - (4294967295 - x) / 2 ^ n ≡ shiftSigned x n
-shifted-high x n h b t =
-    let p : ℕ = 2 ^ n in
-    let q : ℕ = 2 ^ (32 - n) in
-    let d : ℕ = x / p in
-    let r : ℕ = x % p in
-    let a : ℕ = q - 1 - d in
-    let pos : 0 < p = pow-pos n in
-    let ne : 32 - n + n ≡ 32 = omega arith in
-    let pq : q * p ≡ 4294967296 = sym (pow-add 2 (32 - n) n) ∙ ap (λ k. 2 ^ k) ne in
-    let xe : d * p + r ≡ x = div-add-mod' x p in
-    let rl : r < p = mod-lt x pos in
-    let dl : d < q = div-lt-iff-lt-mul {k = p} {x = x} {y = q} pos .1 (rw pq b) in
-    let qe : q ≡ a + 1 + d = omega arith in
-    let qp : q * p ≡ a * p + p + d * p = ap (λ k. k * p) qe ∙ simp (add-mul, one-mul) in
-    let ce : 4294967295 - x ≡ a * p + (p - 1 - r) = omega arith in
-    let de : (4294967295 - x) / p ≡ a = ap (λ k. k / p) ce ∙ digits-div a {m = p} {r = p - 1 - r} (omega arith) in
-    let ql : q ≤ 4294967296 = pow-mono {i = 32 - n} {j = 32} (omega arith) in
-    rw (de, le-ltb _ _ t) (omega arith)

@@ -1,15 +1,8 @@
-// The arithmetic of the instructions: sign extension, comparisons, shifts, and the functions under opcode 0.
+// The arithmetic of the instructions: sign extension, differences, comparisons, shifts.
 ghost use mathlib.Core.Path.{_≡_};
-ghost use Prim.Native.Nat.{ℕ, _*_, _^_, _<_};
-ghost use Rattle.model.specs.Words.{minus, low, extend, below, shiftLeft, shiftRight, shiftSigned, compared};
-ghost use Rattle.model.specs.Instruction.{register};
-ghost use Rattle.dlx.specs.Asked.{asked};
-
-// What a function under opcode 0 makes of its registers.
-pub enum Value {
-    Is(u32),
-    Unknown,
-}
+ghost use Prim.Native.Nat.{_*_, _^_, _<_};
+ghost use Rattle.model.specs.Words as words;
+ghost use Rattle.model.specs.Words.{minus, low, extend, below, shiftLeft, shiftRight, topOnes, shiftSigned, compared};
 
 // "lb and lh sign extended"
 pub fn sext8(x: u32) -> u32
@@ -77,15 +70,32 @@ pub fn srl(x: u32, n: u32) -> u32
     x >> n
 }
 
+// The n top bits, all ones: those that a word of ones loses by a shift right.
+fn top_ones(n: u32) -> u32
+    requires { ⌜ n < 32 ⌝ }
+    ensures { λ r. ⌜ r ≡ topOnes n ⌝ }
+{
+    4294967295 - (4294967295 >> n)
+}
+
+// n copies of bit 31 of x, at the top.
+fn fill(x: u32, n: u32) -> u32
+    requires { ⌜ n < 32 ⌝ }
+    ensures { λ r. ⌜ r ≡ words.fill x n ⌝ }
+{
+    if x / 2147483648 % 2 == 1 {
+        top_ones(n)
+    } else {
+        0
+    }
+}
+
+// "an unsigned shift with the top bits filled from bit 31, for both srai and sra"
 pub fn sra(x: u32, n: u32) -> u32
     requires { ⌜ n < 32 ⌝ }
     ensures { λ r. ⌜ r ≡ shiftSigned x n ⌝ }
 {
-    if x < 2147483648 {
-        x >> n
-    } else {
-        4294967295 - ((4294967295 - x) >> n)
-    }
+    (x >> n) | fill(x, n)
 }
 
 // "RD = RS2's low half times 65536", "RD = imm's 16 bits, times 65536"
@@ -93,33 +103,4 @@ pub fn lhg(y: u32) -> u32
     ensures { λ r. ⌜ r ≡ low 16 y * 65536 ⌝ }
 {
     y % 65536 * 65536
-}
-
-// "Functions under opcode 0"; x and y are the values of RS1 and RS2.
-pub fn function(w: u32, x: u32, y: u32) -> Value
-    ensures { λ r. ⌜ ((next : ℕ) → asked next w r ≡ register next w x y) ⌝ }
-{
-    match w % 64 {
-        0 => Value::Is(sll(x, w / 64 % 32)),
-        2 => Value::Is(srl(x, w / 64 % 32)),
-        3 => Value::Is(sra(x, w / 64 % 32)),
-        4 => Value::Is(sll(x, y % 32)),
-        6 => Value::Is(srl(x, y % 32)),
-        7 => Value::Is(sra(x, y % 32)),
-        33 => Value::Is(std::num::wrapping_add_u32(x, y)),
-        35 => Value::Is(sub(x, y)),
-        36 => Value::Is(x & y),
-        37 => Value::Is(x | y),
-        38 => Value::Is(x ^ y),
-        39 => Value::Is(lhg(y)),
-        40 => Value::Is(0),
-        41 => Value::Is(compare(1, x, y)),
-        42 => Value::Is(compare(2, x, y)),
-        43 => Value::Is(compare(3, x, y)),
-        44 => Value::Is(compare(4, x, y)),
-        45 => Value::Is(compare(5, x, y)),
-        46 => Value::Is(compare(6, x, y)),
-        47 => Value::Is(1),
-        _ => Value::Unknown,
-    }
 }

@@ -1,10 +1,10 @@
 -- `compare` is the comparison of its number.
 use native.Mathlib.Omega.{arith}
 use mathlib.Core.Path.{sym, _∙_}
-use Rattle.dlx.proofs.Words.{compared-same, compared-less, compared-more}
+use Rattle.alu.proofs.Words.{compared-same, compared-less, compared-more}
 use borrow.Author.Needs.{needs}
-use Rattle.dlx.proofs.alu.compare.Statement.{statement}
-use Rattle.dlx.proofs.alu.compare.Tie as tie
+use Rattle.alu.proofs.compare.Statement.{statement}
+use Rattle.alu.proofs.compare.Tie as tie
 
 returns : tie.Need-returns
 returns c =

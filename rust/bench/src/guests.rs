@@ -21,7 +21,9 @@ const LBU: u32 = 36;
 const SB: u32 = 40;
 const SW: u32 = 43;
 const SLLI: u32 = 0;
+const SRAI: u32 = 3;
 const SRL: u32 = 6;
+const SRA: u32 = 7;
 const ADD: u32 = 33;
 const SUB: u32 = 35;
 const SGR: u32 = 41;
@@ -56,6 +58,22 @@ fn alu() -> Vec<u32> {
         i(ANDI, 9, 5, 255),
         j(-40),
         i(SUBI, 10, 9, 3),
+    ]
+}
+
+/// Shifts words right with their sign, by SA and by a register; bit 31 is now set and now clear.
+fn shifts() -> Vec<u32> {
+    vec![
+        i(ADDI, 1, 1, 12345),
+        r(SLLI, 2, 1, 0, 13),
+        r(SRAI, 3, 2, 0, 5),
+        r(SRA, 4, 2, 1, 0),
+        r(ADD, 5, 3, 4, 0),
+        r(SRAI, 6, 5, 0, 31),
+        r(SUB, 7, 7, 6, 0),
+        r(SRA, 8, 5, 7, 0),
+        j(-32),
+        r(SRAI, 9, 8, 0, 1),
     ]
 }
 
@@ -139,6 +157,7 @@ pub fn guests() -> Vec<Guest> {
     let (write, read) = (i(SW, 2, 1, 0), i(ADDI, 3, 2, 0));
     vec![
         guest("ALU loop", 4, 4, alu()),
+        guest("signed shifts", 4, 4, shifts()),
         guest("byte copy", 4, 4, copy(LBU, SB, 1)),
         guest("word copy", 4, 4, copy(LW, SW, 4)),
         guest("addi", 4, 4, addi()),

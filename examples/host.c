@@ -35,8 +35,7 @@ int main(int count, char **words) {
 
     uint32_t about[BRENWYTHAL_IMAGE_ANSWER];
     if (refused("image", brenwythal_image(file, length, about, BRENWYTHAL_IMAGE_ANSWER))) return 1;
-    uint32_t frames = about[BRENWYTHAL_IMAGE_FRAMES] == 0 ? 2 : about[BRENWYTHAL_IMAGE_FRAMES];
-    size_t main_length = (size_t)(1 + frames) * BRENWYTHAL_PAGE;
+    size_t main_length = (size_t)brenwythal_least_main_pages(about[BRENWYTHAL_IMAGE_FRAMES]) * BRENWYTHAL_PAGE;
     size_t swap_length = (size_t)about[BRENWYTHAL_IMAGE_PTL] * BRENWYTHAL_PAGE;
     printf("image ptl %u start %u frames %u\n", (unsigned)about[BRENWYTHAL_IMAGE_PTL],
            (unsigned)about[BRENWYTHAL_IMAGE_START], (unsigned)about[BRENWYTHAL_IMAGE_FRAMES]);

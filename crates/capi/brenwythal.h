@@ -29,19 +29,21 @@
  * There is no other condition: any numbers, lengths, words and bytes may be handed in, and what does not fit
  * is refused.
  *
- * Every call returns 0, or the number of a refusal. The first that applies is given, in the order 1, 2, 4, 3,
- * for images 1, 5, 6, 7, for words to list 1, 7; for a text 1, then 8 to 10 of the first bad line, then 7. A
- * refused call changes nothing that is lent to it, with two exceptions: the words of an answer become 0 (but
- * the line and the column of a bad line), and the record that brenwythal_load is to fill becomes all zeros.
- * (Where a record, an answer or a view's buffer has the wrong length, not even these change.)
+ * Every call returns 0, or the number of a refusal; brenwythal_least_main_pages alone, which is lent nothing
+ * and refuses nothing, returns what it is asked for. The first refusal that applies is given, in the order 1,
+ * 2, 4, 3, for images 1, 5, 6, 7, for words to list 1, 7; for a text 1, then 8 to 10 of the first bad line,
+ * then 7. A refused call changes nothing that is lent to it, with two exceptions: the words of an answer
+ * become 0 (but the line and the column of a bad line), and the record that brenwythal_load is to fill becomes
+ * all zeros. (Where a record, an answer or a view's buffer has the wrong length, not even these change.)
  *
- * A whole host. It makes an image of one page that may be read and written, puts three instructions there
- * (addi, sw, trap 5), runs it, and prints `stop 1 5, finished 3, loads 1`:
+ * A whole host. It makes an image of one page that may be read and written, with a zero in frames, for which
+ * five main pages are enough, puts three instructions there (addi, sw, trap 5), runs it, and
+ * prints `stop 1 5, finished 3, loads 1`:
  *
  *     #include <stdio.h>
  *     #include "brenwythal.h"
  *
- *     static uint8_t image[4096 + 1 + 24], main_memory[3 * 4096], swap[4096];
+ *     static uint8_t image[4096 + 1 + 24], main_memory[5 * 4096], swap[4096];
  *
  *     static void put(size_t at, uint32_t word) {
  *         for (int i = 0; i < 4; i++) image[at + i] = (uint8_t)(word >> (8 * i));
@@ -141,7 +143,7 @@ enum {
 enum {
     BRENWYTHAL_IMAGE_PTL = 0,   /* pages: swap is to be 4096 times as many bytes */
     BRENWYTHAL_IMAGE_START = 1, /* the address of the first instruction */
-    BRENWYTHAL_IMAGE_FRAMES = 2 /* frames as written, where 0 means 2: main memory has one page more, at least */
+    BRENWYTHAL_IMAGE_FRAMES = 2 /* frames as written: brenwythal_least_main_pages says what they ask for */
 };
 
 /* The sizes of the answer of brenwythal_assemble. */
@@ -159,13 +161,18 @@ enum {
 };
 
 /* Reads a console image and fills an answer of BRENWYTHAL_IMAGE_ANSWER words, from which the host finds the
- * lengths of the memories that loading takes. Refusals 1 (the answer's length), 5 and 6. */
+ * lengths of the memories that loading takes: swap has 4096 times BRENWYTHAL_IMAGE_PTL bytes, main memory as
+ * many pages as the next call says, at least. Refusals 1 (the answer's length), 5 and 6. */
 uint32_t brenwythal_image(const uint8_t *file, size_t file_length,
                           uint32_t *answer, size_t answer_length);
 
-/* Loads a console image: fills the record, and all of main memory and swap. Main memory is to be 3 to 64
- * whole pages, at least one more than the frames; swap exactly the image's pages. The file is not needed
- * afterwards. Refusals 1 (the record's length), 5, 6 and 7. */
+/* Returns how many pages of main memory an image needs at least, by its frames as they stand in the answer of
+ * brenwythal_image; 0 where no image has such frames. Nothing is refused. */
+uint32_t brenwythal_least_main_pages(uint32_t frames);
+
+/* Loads a console image: fills the record, and all of main memory and swap. Main memory is to be whole pages,
+ * at least as many as brenwythal_least_main_pages says and at most 64; swap exactly the image's pages. The
+ * file is not needed afterwards. Refusals 1 (the record's length), 5, 6 and 7. */
 uint32_t brenwythal_load(const uint8_t *file, size_t file_length,
                          uint8_t *main_memory, size_t main_length,
                          uint8_t *swap, size_t swap_length,

@@ -7,6 +7,7 @@ mod answer_words;
 use model::RunAnswer;
 use model::Verdict;
 use model::VirtualPage;
+ghost use Rattle.model.specs.Promises.{LeastMainPagesPromise};
 ghost use Rattle.capi.specs.Promises as promises;
 
 // The words of a record, and the bytes of a page.
@@ -158,6 +159,15 @@ pub extern "C" fn brenwythal_image(file: &[u8], answer: &mut [u32]) -> u32
         return 1;
     }
     answer_words::put_image(answer, image::read(file))
+}
+
+// How many main pages an image with these frames needs at least; 0 where no image has them. It returns that number itself: nothing is
+// lent, and nothing can be refused.
+#[no_mangle]
+pub extern "C" fn brenwythal_least_main_pages(frames: u32) -> u32
+    ensures { λ r. ⌜ LeastMainPagesPromise frames r ⌝ }
+{
+    loading::least_main_pages(frames)
 }
 
 // Assembles a maker's text into `out`. The answer: the bytes that the words take, and the line and the column of a bad line.

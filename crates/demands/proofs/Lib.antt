@@ -5,6 +5,7 @@ pub mod Demand1
 pub mod FlatRun
 pub mod Demand2
 pub mod Loaded
+pub mod Least
 pub mod Wants
 pub mod Bare
 pub mod Turns

@@ -5,6 +5,7 @@ use Rattle.demands.proofs.Demand1.{demand-1}
 use Rattle.demands.proofs.Demand2.{demand-2}
 use Rattle.demands.proofs.Demand3.{fresh, demand-3}
 use Rattle.demands.proofs.Loaded.{loaded}
+use Rattle.demands.proofs.Least.{every-least}
 use Rattle.demands.proofs.Each.{each-load, never-victim, each-instruction, each-run, each-spare}
 
 every-image : EveryImage
@@ -24,6 +25,7 @@ summary = record {
   demand-2 = demand-2;
   demand-3 = λ p g e ss. demand-3 _ p (fresh p g e) ss;
   images = every-image;
+  least = every-least;
   instructions = each-instruction;
   runs = each-run;
   loads = each-load;

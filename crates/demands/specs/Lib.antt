@@ -5,6 +5,7 @@ pub mod Demand1
 pub mod FlatRun
 pub mod Demand2
 pub mod Loaded
+pub mod Least
 pub mod Brought
 pub mod Demand3
 pub mod Each

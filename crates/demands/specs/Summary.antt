@@ -13,6 +13,7 @@ use Rattle.demands.specs.Demand1.{Demand1}
 use Rattle.demands.specs.Demand2.{Demand2}
 use Rattle.demands.specs.Demand3.{SeriesServed}
 use Rattle.demands.specs.Loaded.{LoadedFrom}
+use Rattle.demands.specs.Least.{EveryLeast}
 use Rattle.demands.specs.Each.{EachLoad, NeverVictim, EachInstruction, EachRun, EachSpare}
 
 -- loading the image l into the memories m is not refused
@@ -57,6 +58,8 @@ pub record Summary : Type 0 where
   pub demand-3 : EveryFresh
   -- "Loading makes P the lent main pages, a the frames, abase 1, pto 0, sbase 0.": that machine, and what any series of steps leaves
   pub images : EveryImage
+  -- "Swap must be 4096·ptl bytes; main memory 3 to 64 whole pages, at least 1+frames.": what a host is told of main memory is this rule
+  pub least : EveryLeast
   -- "one that runs the first instruction and then only counts (demand 2 after each step)"; "An instruction has at most two loads.",
   -- and its pages are resident together at its end
   pub instructions : EachInstruction

@@ -8,14 +8,15 @@ use borrow.Author.Tests.{le-leb, lt-leb, eq-eqb, ne-eqb, leb-true, eqb-true, not
 use lib.Dec.{eqb, leb}
 use lib.ListN.{length, getD}
 use Rattle.model.specs.Choice.{passes, everyBelow}
-use Rattle.model.specs.Image.{trailer, ptlOf, startOf, framesOf, rightsOf, known, wellFormed, imageVerdict}
+use Rattle.model.specs.Words.{aligned}
+use Rattle.model.specs.Image.{trailer, ptlOf, startOf, framesOf, rightsOf, known, framesRight, wellFormed, imageVerdict}
 use Rattle.model.specs.Parts.{Part}
 use Rattle.model.specs.declared.Refusal.the-variants.{Edition, Format}
 use Rattle.model.specs.declared.ImageAnswer.the-variants.{Image, NotImage}
 use Rattle.laws.proofs.Choice.{pass}
 use Rattle.image.specs.Trailer.{trailerOf}
 use Rattle.image.specs.Sections.{rightsBy}
-use Rattle.image.specs.Format.{distancesRight, rightsRight, startAndFramesRight, answerOf}
+use Rattle.image.specs.Format.{distancesRight, rightsRight, answerOf}
 use Rattle.image.specs.declared.trailer.Trailer.{Trailer}
 use Rattle.image.proofs.Parts.{the-rights, length-section}
 
@@ -36,28 +37,13 @@ module _ (t : Trailer) (n : ℕ) where
     unfolding distancesRight passes
     ptl-right k = simp (le-leb 1 (t .ptl) h, le-leb (t .ptl) 1024 k, and-assoc, and-true)
 
--- ---- start and frames
-module _ (start frames : ℕ) where
-  pub start-wrong : (start % 4 ≡ 0 → ⊥) → false ≡ startAndFramesRight start frames
-  unfolding startAndFramesRight
-  start-wrong h = simp (ne-eqb (start % 4) 0 h)
-
-  module _ (h : start % 4 ≡ 0) where
-    pub frames-zero : frames ≡ 0 → true ≡ startAndFramesRight start frames
-    unfolding startAndFramesRight
-    frames-zero k = simp (eq-eqb (start % 4) 0 h, eq-eqb frames 0 k)
-
-    pub frames-some : (frames ≡ 0 → ⊥) → (leb 2 frames && leb frames 32) ≡ startAndFramesRight start frames
-    unfolding startAndFramesRight
-    frames-some k = simp (eq-eqb (start % 4) 0 h, ne-eqb frames 0 k)
-
--- ---- the whole row, in the code's three steps
+-- ---- the whole row, in the code's four steps
 module _ (l : List ℕ) where
   everyRight : Bool
   everyRight = everyBelow (ptlOf l) (λ x. leb (getD (rightsOf l) x 0) 3)
 
-  split : wellFormed l ≡ (distancesRight (trailerOf l) (length l) && (everyRight && startAndFramesRight (startOf l) (framesOf l)))
-  unfolding wellFormed distancesRight passes everyRight startAndFramesRight
+  split : wellFormed l ≡ (distancesRight (trailerOf l) (length l) && (everyRight && (aligned 4 (startOf l) && framesRight (framesOf l))))
+  unfolding wellFormed distancesRight passes everyRight
   split = simp (and-assoc, and-true)
 
   far-enough : distancesRight (trailerOf l) (length l) ≡ true → 24 + ptlOf l + 4096 * ptlOf l ≤ length l
@@ -87,8 +73,15 @@ module _ (l : List ℕ) where
       pub rights-wrong : not r ≡ true → false ≡ wellFormed l
       rights-wrong k = rw (split, distances-are, not-false d h, rights-are, not-true r k)
 
-      pub the-rest : not r ≡ false → (s : Bool) → s ≡ startAndFramesRight (t .start) (t .frames) → s ≡ wellFormed l
-      the-rest k s q = rw (split, distances-are, not-false d h, rights-are, not-false r k) (rw ht at q)
+      module _ (k : not r ≡ false) where
+        the-rest : wellFormed l ≡ (aligned 4 (startOf l) && framesRight (framesOf l))
+        the-rest = rw (split, distances-are, not-false d h, rights-are, not-false r k)
+
+        pub start-wrong : (t .start % 4 ≡ 0 → ⊥) → false ≡ wellFormed l
+        start-wrong q = rw (the-rest, ne-eqb (startOf l % 4) 0 (rw ht at q))
+
+        pub frames-decide : t .start % 4 ≡ 0 → (f : Bool) → f ≡ framesRight (t .frames) → f ≡ wellFormed l
+        frames-decide q f e = rw (the-rest, eq-eqb (startOf l % 4) 0 (rw ht at q)) (rw ht at e)
 
 -- ---- the answer
 module _ (l : List ℕ) where

@@ -1,11 +1,10 @@
 -- The tests of `wellFormed` by name, and the reader's answer as the enum that code hands back.
-use mathlib.Core.Bool.{Bool, _&&_, _||_}
+use mathlib.Core.Bool.{Bool}
 use mathlib.Core.List.{List, [], _∷_}
 use Prim.Native.Nat.{ℕ, _+_, _*_}
 use lib.Dec.{eqb, leb}
 use lib.ListN.{length, getD}
 use Rattle.model.specs.Choice.{passes, everyBelow}
-use Rattle.model.specs.Words.{aligned}
 use Rattle.model.specs.Image.{ptlOf, startOf, framesOf, imageVerdict}
 use Rattle.model.specs.declared.Verdict.{Verdict}
 use Rattle.model.specs.declared.Verdict.the-variants.{Granted, Refused}
@@ -25,9 +24,6 @@ distancesRight t n = passes (
 -- each rights byte
 abbrev pub rightsRight : List ℕ → Bool
 rightsRight rights = everyBelow (length rights) (λ x. leb (getD rights x 0) 3)
-
-unfoldable pub startAndFramesRight : ℕ → ℕ → Bool
-startAndFramesRight start frames = aligned 4 start && (eqb frames 0 || leb 2 frames && leb frames 32)
 
 abbrev pub answerBy : Verdict → List ℕ → ImageAnswer
 answerBy Granted l = Image (ptlOf l) (startOf l) (framesOf l)

@@ -5,7 +5,7 @@ use crate::trailer::Trailer;
 use model::ImageAnswer;
 use model::Refusal;
 ghost use mathlib.Core.Path.{_≡_};
-ghost use Rattle.model.specs.Image.{wellFormed};
+ghost use Rattle.model.specs.Image.{framesRight, wellFormed};
 ghost use Rattle.image.specs.Trailer.{trailerOf};
 ghost use Rattle.image.specs.Format as format;
 
@@ -41,13 +41,10 @@ fn rights_right(rights: &[u8]) -> bool
     true
 }
 
-// "Start is a multiple of 4. Frames is 2 to 32, or 0"
-fn start_and_frames_right(start: u32, frames: u32) -> bool
-    ensures { λ r. ⌜ r ≡ format.startAndFramesRight start frames ⌝ }
+// "Frames is 2 to 32, or 0"
+pub fn frames_right(frames: u32) -> bool
+    ensures { λ r. ⌜ r ≡ framesRight frames ⌝ }
 {
-    if start % 4 != 0 {
-        return false;
-    }
     if frames == 0 {
         return true;
     }
@@ -64,7 +61,10 @@ fn well_formed(file: &[u8], t: Trailer) -> bool
     if !rights_right(sections::rights_of(file, t.ptl)) {
         return false;
     }
-    start_and_frames_right(t.start, t.frames)
+    if t.start % 4 != 0 {
+        return false;
+    }
+    frames_right(t.frames)
 }
 
 // The reader's answer. Nothing is read before the length is tested.

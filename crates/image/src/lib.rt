@@ -4,7 +4,7 @@ use model::ImageAnswer;
 ghost use Rattle.model.specs.Promises.{ImagePromise, PagesPromise, RightsPromise};
 
 pub mod at_hand;
-mod format;
+pub mod format;
 mod sections;
 mod trailer;
 

@@ -4,14 +4,14 @@ use mathlib.Core.Path.{_≡_, refl}
 use mathlib.Core.Bool.{Bool, true, false, _||_, _&&_}
 use mathlib.Core.Logic.{_⊎_, inl, inr}
 use mathlib.Core.List.{List}
-use Prim.Native.Nat.{ℕ, _≤_}
+use Prim.Native.Nat.{ℕ, _+_, _≤_}
 use lib.Dec.{eqb, leb}
 use lib.ListN.{length}
 use borrow.Author.Tests.{leb-true, eqb-true, le-leb, eq-eqb}
 use Rattle.model.specs.State.{Memory}
 use Rattle.model.specs.Answers.{verdictNumbers}
 use Rattle.model.specs.Calls.{unless}
-use Rattle.model.specs.Image.{ptlOf, framesOf, known, wellFormed, imageVerdict, imageBy, imageCall, room, loadVerdict, loadBy, loadCall}
+use Rattle.model.specs.Image.{ptlOf, framesOf, known, framesRight, wellFormed, imageVerdict, imageBy, imageCall, meant, leastMainPages, room, loadVerdict, loadBy, loadCall}
 use Rattle.model.specs.declared.Refusal.the-variants.{Edition, Format, Room}
 use Rattle.model.specs.declared.Verdict.{Verdict}
 use Rattle.model.specs.declared.Verdict.the-variants.{Granted, Refused}
@@ -22,16 +22,20 @@ use Rattle.laws.proofs.Granted.{granted, unless-granted}
 -- ---- tests and facts
 -- "Frames is 2 to 32, or 0"
 module _ (n : ℕ) where
-  some-frames : (eqb n 0 || leb 2 n && leb n 32) ≡ true → (n ≡ 0) ⊎ ((2 ≤ n) × (n ≤ 32))
+  pub some-frames : framesRight n ≡ true → (n ≡ 0) ⊎ ((2 ≤ n) × (n ≤ 32))
   some-frames e = pick (eqb n 0) refl e
     where
       pick : (c : Bool) → eqb n 0 ≡ c → (c || leb 2 n && leb n 32) ≡ true → (n ≡ 0) ⊎ ((2 ≤ n) × (n ≤ 32))
       pick true q r = inl (eqb-true n 0 q)
       pick false q r = inr (leb-true 2 n (and-left (leb 2 n) _ r), leb-true n 32 (and-right (leb 2 n) _ r))
 
-  frames-right : (n ≡ 0) ⊎ ((2 ≤ n) × (n ≤ 32)) → (eqb n 0 || leb 2 n && leb n 32) ≡ true
+  frames-right : (n ≡ 0) ⊎ ((2 ≤ n) × (n ≤ 32)) → framesRight n ≡ true
   frames-right (inl q) = or-left _ _ (eq-eqb n 0 q)
   frames-right (inr q) = or-right (eqb n 0) _ (and-both _ _ (le-leb 2 n (q .0)) (le-leb n 32 (q .1)))
+
+  pub least-pages : (n ≡ 0) ⊎ ((2 ≤ n) × (n ≤ 32)) → leastMainPages n ≡ 1 + meant n
+  unfolding leastMainPages
+  least-pages h = rw (frames-right h)
 
 module _ (l : List ℕ) where
   pub known-of : known l ≡ true → Known l

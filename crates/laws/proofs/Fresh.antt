@@ -60,8 +60,8 @@ number-entries (b ∷ r) tail (suc x) h =
     ∙ sym (number-drop 4 (invalidEntries (b ∷ r) ++ tail) 4 (4 * x))
     ∙ number-entries r tail x (le-of-suc-le-suc h)
 
--- ---- frames: "0, which means 2"
-meant-bounds : (n : ℕ) → (n ≡ 0) ⊎ ((2 ≤ n) × (n ≤ 32)) → (2 ≤ meant n) × (meant n ≤ 32)
+-- ---- frames: as written, or the 4 of a zero
+pub meant-bounds : (n : ℕ) → (n ≡ 0) ⊎ ((2 ≤ n) × (n ≤ 32)) → (2 ≤ meant n) × (meant n ≤ 32)
 meant-bounds n (inl e) = rw e (omega arith, omega arith)
 meant-bounds n (inr h) = rw (ne-eqb n 0 (λ e. omega (arith, h .0, e))) h
 

@@ -27,7 +27,7 @@ pub record Formed (l : List ℕ) : Type 0 where
   pub rights-most : (x : ℕ) → x < ptlOf l → getD (rightsOf l) x 0 ≤ 3
   -- "Start is a multiple of 4."
   pub start-aligned : startOf l % 4 ≡ 0
-  -- "Frames is 2 to 32, or 0, which means 2."
+  -- "Frames is 2 to 32, or 0"
   pub frames-known : (framesOf l ≡ 0) ⊎ ((2 ≤ framesOf l) × (framesOf l ≤ 32))
 
 -- "Swap must be 4096·ptl bytes; main memory 3 to 64 whole pages, at least 1+frames."

@@ -2,3 +2,4 @@
 pub mod Filled
 pub mod Loads
 pub mod Roomy
+pub mod Least

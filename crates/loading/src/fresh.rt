@@ -12,12 +12,12 @@ ghost use Prim.Native.Nat.{_≤_, _/_};
 ghost use Rattle.model.specs.Image as image;
 ghost use Rattle.loading.specs.Fresh as fresh;
 
-// "Frames is 2 to 32, or 0, which means 2."
-fn meant(frames: u32) -> u32
+// "A zero in the image's frames field shall mean 4."
+pub(crate) fn meant(frames: u32) -> u32
     ensures { λ r. ⌜ r ≡ image.meant frames ⌝ }
 {
     if frames == 0 {
-        return 2;
+        return 4;
     }
     frames
 }

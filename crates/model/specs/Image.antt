@@ -49,6 +49,10 @@ pagesOf l = take (4096 * ptlOf l) (drop (pagesPlace l) l)
 unfoldable pub known : List ℕ → Bool
 known l = leb 24 (length l) && eqb (trailer l 5) 1
 
+-- "Frames is 2 to 32, or 0"
+abbrev pub framesRight : ℕ → Bool
+framesRight n = eqb n 0 || leb 2 n && leb n 32
+
 -- "6: a trailer number (but edition), a rights byte or the label's length breaks its rule"
 unfoldable pub wellFormed : List ℕ → Bool
 wellFormed l = passes (
@@ -58,7 +62,7 @@ wellFormed l = passes (
     ∷ leb (trailer l 1) (length l) ∷ leb (length l) (trailer l 1 + 1024)
     ∷ everyBelow (ptlOf l) (λ x. leb (getD (rightsOf l) x 0) 3)
     ∷ aligned 4 (startOf l)
-    ∷ (eqb (framesOf l) 0 || leb 2 (framesOf l) && leb (framesOf l) 32)
+    ∷ framesRight (framesOf l)
     ∷ [])
 
 unfoldable pub imageVerdict : List ℕ → Verdict → Verdict
@@ -79,9 +83,13 @@ unfoldable pub imageCall : List ℕ → ImageOutcome
 imageCall l = imageBy (imageVerdict l Granted) l
 
 -- ---- loading
--- "Frames is 2 to 32, or 0, which means 2."
+-- "A zero in the image's frames field shall mean 4."
 abbrev pub meant : ℕ → ℕ
-meant n = if eqb n 0 then 2 else n
+meant n = if eqb n 0 then 4 else n
+
+-- what a host asks before it lends main memory, of the frames as written: "at least 1+frames" pages; 0 where no image has them
+unfoldable pub leastMainPages : ℕ → ℕ
+leastMainPages n = if framesRight n then 1 + meant n else 0
 
 -- "Swap must be 4096·ptl bytes; main memory 3 to 64 whole pages, at least 1+frames."
 unfoldable pub room : ℕ → ℕ → ℕ → ℕ → Bool

@@ -8,7 +8,7 @@ use Rattle.model.specs.Frames.{advanced}
 use Rattle.model.specs.State.{Memory, State, state}
 use Rattle.model.specs.Answers.{verdictNumbers, imageNumbers}
 use Rattle.model.specs.Calls.{runOutcome, runCall, readCall, writeCall, viewCall, replyCall}
-use Rattle.model.specs.Image.{imageCall, loadCall}
+use Rattle.model.specs.Image.{imageCall, leastMainPages, loadCall}
 use Rattle.model.specs.Parts.{PartOf, pagesPart, rightsPart, viewHome, viewPart}
 use Rattle.model.specs.declared.VirtualPage.{VirtualPage}
 use Rattle.model.specs.declared.FrameBook.{FrameBook}
@@ -55,6 +55,10 @@ PagesPromise file r = PartOf file (pagesPart (now file)) r
 
 abbrev pub RightsPromise : RefT (List ℕ) → RefT (List ℕ) → Type 0
 RightsPromise file r = PartOf file (rightsPart (now file)) r
+
+-- how many main pages loading needs at least, by the frames that the reader answered: the number
+abbrev pub LeastMainPagesPromise : ℕ → ℕ → Type 0
+LeastMainPagesPromise frames r = r ≡ leastMainPages frames
 
 -- loading, of a file into the memories m: the number answered, the record handed back and both memories at exit
 abbrev pub LoadPromise : List ℕ → Memory → Handed → List ℕ → List ℕ → Type 0

@@ -107,6 +107,7 @@ image-calls = record {
   read = λ file a a′ e e′. image-told a a′ (e ∙ sym e′);
   pages = λ file. part-same file _;
   rights = λ file. part-same file _;
+  least-main-pages = λ frames. same _;
   load = λ file m. state-same (loadCall file m);
 }
 

@@ -71,6 +71,7 @@ pub record ImageCalls : Type 0 where
   pub read : (file : List ℕ) → NoTwo (promises.ImagePromise file)
   pub pages : (file : RefT (List ℕ)) → NoTwoParts (promises.PagesPromise file)
   pub rights : (file : RefT (List ℕ)) → NoTwoParts (promises.RightsPromise file)
+  pub least-main-pages : (frames : ℕ) → NoTwo (promises.LeastMainPagesPromise frames)
   pub load : (file : List ℕ) (m : Memory) → NoTwoLent (promises.LoadPromise file m)
 
 -- ---- those of the makers' notation, `assembler` and `lister`
@@ -86,7 +87,8 @@ pub record ByHand : Type 0 where
   pub rights : (i : Image) → NoTwoParts (hand.HandRightsPromise i)
   pub advance : (a : ℕ) (b : FrameBook) (y : VirtualPage) → NoTwo (promises.AdvancePromise a b y)
 
--- ---- the exported calls: the number returned and every lent slice at exit are one record
+-- ---- the exported calls: the number returned and every lent slice at exit are one record. (The least main pages, for which nothing is
+-- lent, have loading's own promise.)
 pub record Exported : Type 0 where
   pub load : (file main swap words : List ℕ) → NoTwo (exported.LoadPromise file main swap words)
   pub run : (words main swap : List ℕ) (limit : ℕ) (answer : List ℕ) → NoTwo (exported.RunPromise words main swap limit answer)

@@ -1,8 +1,8 @@
 -- The worked values that document 01 marks with *, as one table and one statement about the definitions, with pages of 4096 bytes
--- and the real run; with them its small image, a machine whose shape a host chose, and the marks of document 02's request 3. The checker
--- computes it.
+-- and the real run; with them its small image, a machine whose shape a host chose, and of document 02 the marks of request 3 and the four
+-- frames of request 5. The checker computes it.
 use mathlib.Core.Bool.{Bool, true, false, not, _&&_}
-use mathlib.Core.List.{List, [], _∷_, _++_}
+use mathlib.Core.List.{List, [], _∷_, _++_, map}
 use Prim.Native.Nat.{ℕ, _+_, _-_, _*_, _%_, _^_}
 use lib.Dec.{T, eqb}
 use lib.ListN.{replicate}
@@ -22,7 +22,7 @@ use Rattle.model.specs.Run.{follow, run, attempts, instruction}
 use Rattle.model.specs.Calls.{machineVerdict, runVerdict, RunOutcome, runCall}
 use Rattle.model.specs.Calls.{permitted, hostVerdict, poke, bytesTo, markFor, marksFor, StateOutcome, writeCall}
 use Rattle.model.specs.Series.{spared}
-use Rattle.model.specs.Image.{trailer, rightsOf, pagesOf, known, wellFormed, imageVerdict, room, loadVerdict, invalidEntries, fresh, loadCall}
+use Rattle.model.specs.Image.{trailer, rightsOf, pagesOf, known, wellFormed, imageVerdict, leastMainPages, room, loadVerdict, invalidEntries, fresh, loadCall}
 use Rattle.model.specs.Console.{digits, consoleVerdict, consoleText}
 use Rattle.model.specs.declared.Shape.{Shape}
 use Rattle.model.specs.declared.Access.{Access}
@@ -176,6 +176,17 @@ right p = sound (p .machine) (p .memory)
 abbrev image : List ℕ
 image = pages ((0x24010007 ∷ 0xAC010040 ∷ 0xF8000005 ∷ []) ∷ []) ++ 3 ∷ words (zeros 24) 0 (25 ∷ 4121 ∷ 1 ∷ 0 ∷ 0 ∷ 1 ∷ [])
 
+-- loaded into n main pages: the refusal, and the frames of the machine that is handed back
+abbrev framed : ℕ → List ℕ
+framed n = framesBy (loadCall image (memory (zeros (4096 * n)) (zeros 4096)))
+  where
+    framesBy : StateOutcome → List ℕ
+    framesBy o = o .verdict .refused ∷ o .state .machine .shape .frames ∷ []
+
+-- a page of swap, and n main pages, have room for an image with these frames
+abbrev fitting : ℕ → ℕ → Bool
+fitting frames n = room frames 1 (4096 * n) 4096
+
 -- ---- the table
 infix 5 _is_
 -- the two lists are the same
@@ -239,8 +250,14 @@ pub worked : T (every (
     ∷ right (one-resident 1 1)
     ∷ right (one-resident 1 0)
     ∷ not (right (one-resident 2 0))
-    -- the small image is taken, and the program prints: stop 1 5, finished 3, loads 1, dpc 12
-    ∷ (loadCall image (memory (zeros 20480) (zeros 4096)) .verdict .refused ∷ [] is 0 ∷ [])
+    -- frames 0 mean 4: three and four main pages are too few; 2 or 3 frames written out still load into 3 or 4, but 4 frames do not
+    ∷ not (fitting 0 3) ∷ not (fitting 0 4) ∷ fitting 0 5 ∷ fitting 2 3 ∷ fitting 3 4 ∷ not (fitting 4 4)
+    -- the least main pages for frames 0, 2, 3, 4 and 32; no image has 1 or 33
+    ∷ (map leastMainPages (0 ∷ 2 ∷ 3 ∷ 4 ∷ 32 ∷ 1 ∷ 33 ∷ []) is 5 ∷ 3 ∷ 4 ∷ 5 ∷ 33 ∷ 0 ∷ 0 ∷ [])
+    -- the small image, whose frames are 0, is refused 7 with four main pages; with five it is taken, and the program prints: stop 1 5,
+    -- finished 3, loads 1, dpc 12
+    ∷ (framed 4 is 7 ∷ 0 ∷ [])
+    ∷ (framed 5 is 0 ∷ 4 ∷ [])
     ∷ (consoleText image is
     115 ∷ 116 ∷ 111 ∷ 112 ∷ 32 ∷ 49 ∷ 32 ∷ 53 ∷ 10
     ∷ 102 ∷ 105 ∷ 110 ∷ 105 ∷ 115 ∷ 104 ∷ 101 ∷ 100 ∷ 32 ∷ 51 ∷ 10
@@ -252,5 +269,5 @@ unfolding
     passes everyBelow listBelow compared number store page withPage entry withEntry setSpare spared advanced among resident fits sound translate plan register immediate
     transfer obeyLoad obeyStore obey attempt out into loaded load follow run attempts instruction machineVerdict runVerdict runCall
     same permitted hostVerdict poke bytesTo markFor marksFor writeCall
-    trailer rightsOf pagesOf known wellFormed imageVerdict room loadVerdict invalidEntries fresh loadCall digits consoleVerdict consoleText
+    trailer rightsOf pagesOf known wellFormed imageVerdict leastMainPages room loadVerdict invalidEntries fresh loadCall digits consoleVerdict consoleText
 worked = tt

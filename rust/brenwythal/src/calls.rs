@@ -1,4 +1,5 @@
-//! The calls of brenwythal.h on lent slices, each as it is: every call answers 0 or the number of a refusal.
+//! The calls of brenwythal.h on lent slices, each as it is: every call but [`least_main_pages`] answers 0 or
+//! the number of a refusal.
 //!
 //! All unsafe code of this crate is here. The header asks four things of the pointers, and every function
 //! below takes slices and hands on nothing but their own pointer and length, which gives all four:
@@ -19,6 +20,7 @@ mod header {
             answer: *mut u32,
             answer_length: usize,
         ) -> u32;
+        pub fn brenwythal_least_main_pages(frames: u32) -> u32;
         pub fn brenwythal_load(
             file: *const u8,
             file_length: usize,
@@ -97,6 +99,13 @@ mod header {
 pub fn image(file: &[u8], answer: &mut [u32]) -> u32 {
     // SAFETY: as the head of this module says.
     unsafe { header::brenwythal_image(file.as_ptr(), file.len(), answer.as_mut_ptr(), answer.len()) }
+}
+
+/// The fewest pages of main memory that [`load`] takes for an image with these frames, as [`image`] answered
+/// them; 0 where no image has them.
+pub fn least_main_pages(frames: u32) -> u32 {
+    // SAFETY: as the head of this module says; nothing is lent.
+    unsafe { header::brenwythal_least_main_pages(frames) }
 }
 
 /// Fills a record of 75 words, and both memories.

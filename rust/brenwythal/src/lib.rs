@@ -44,14 +44,25 @@ pub struct Image {
     pub ptl: u32,
     /// The address of the first instruction.
     pub start: u32,
-    /// Frames as written, where 0 means 2.
+    /// Frames as written, where 0 leaves their number to the machine.
     pub frames: u32,
 }
 
 impl Image {
-    /// The fewest pages of main memory that loading takes.
+    /// The fewest pages of main memory that [`Machine::load`] takes for this image; fewer are refused 7. For
+    /// frames that no image has it is 0.
+    ///
+    /// ```
+    /// # let file = include_bytes!("../../../examples/trap.img");
+    /// # use brenwythal::{image, Machine, Refusal};
+    /// let pages = image(file)?.least_main_pages();
+    /// assert_eq!(pages, 5);
+    /// assert!(Machine::load(file, pages).is_ok());
+    /// assert_eq!(Machine::load(file, pages - 1).err(), Some(Refusal::Room));
+    /// # Ok::<(), Refusal>(())
+    /// ```
     pub fn least_main_pages(&self) -> usize {
-        1 + if self.frames == 0 { 2 } else { self.frames as usize }
+        calls::least_main_pages(self.frames) as usize
     }
 }
 
@@ -145,8 +156,9 @@ pub struct Machine {
 }
 
 impl Machine {
-    /// A fresh machine of a console image, with this many pages of main memory: 3 to 64, and at least one
-    /// more than the frames. Swap gets the image's pages. It can be refused 5, 6 and 7.
+    /// A fresh machine of a console image, with this many pages of main memory:
+    /// [`least_main_pages`](Image::least_main_pages) of the image to 64. Swap gets the image's pages. It can
+    /// be refused 5, 6 and 7.
     pub fn load(file: &[u8], main_pages: usize) -> Result<Self, Refusal> {
         let ptl = image(file)?.ptl as usize;
         // The library refuses any number of pages above 64; so many need not be there for that.
@@ -253,7 +265,7 @@ impl Machine {
     /// ```
     /// # let file = include_bytes!("../../../examples/trap.img");
     /// # use brenwythal::Machine;
-    /// let mut machine = Machine::load(file, 3)?;
+    /// let mut machine = Machine::load(file, 5)?;
     /// machine.run(1)?;
     /// assert_eq!(machine.marks(), 0);
     /// machine.write(4000, b"7")?;

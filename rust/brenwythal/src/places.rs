@@ -51,7 +51,7 @@ pub const IMAGE_ANSWER: usize = 3;
 pub const IMAGE_PTL: usize = 0;
 /// The address of the first instruction.
 pub const IMAGE_START: usize = 1;
-/// Frames as written, where 0 means 2.
+/// Frames as written; [`Image::least_main_pages`](crate::Image::least_main_pages) says what they ask for.
 pub const IMAGE_FRAMES: usize = 2;
 
 /// The length of the answer about a text in sizes.

@@ -1,8 +1,9 @@
 //! Worked values of document 01, through the wrapper.
-use brenwythal::{image, Image, Machine, Ran, Refusal, Stop, GPR, HELD, MARKS, PAGE, PTL, PTO, USED};
+use brenwythal::{image, Image, Machine, Ran, Refusal, Stop, FRAMES, GPR, HELD, MARKS, PAGE, PTL, PTO, USED};
 
 const DEPOT: &[u8] = include_bytes!("../../../examples/depot.img");
 const HOP: &[u8] = include_bytes!("../../../examples/hop.img");
+const STAY: &[u8] = include_bytes!("../../../examples/stay.img");
 
 /// A console image of these pages, each with its rights and its first words.
 fn console(pages: &[(u8, &[u32])], start: u32, frames: u32) -> Vec<u8> {
@@ -34,7 +35,7 @@ fn one_page_image() {
     let file = one_page();
     let about = image(&file).unwrap();
     assert_eq!(about, Image { ptl: 1, start: 0, frames: 0 });
-    assert_eq!(about.least_main_pages(), 3);
+    assert_eq!(about.least_main_pages(), 5);
     let mut machine = Machine::load(&file, 5).unwrap();
     assert_eq!((machine.main().len(), machine.swap().len()), (5 * PAGE, PAGE));
     assert_eq!(machine.run(1000), Ok(Ran { stop: Stop::Trap(5), finished: 3, loads: 1, copied: 0 }));
@@ -80,10 +81,37 @@ fn four_loads() {
     assert_eq!(machine.record()[USED..HELD + 2], [2, 0, 2, 0], "b, hand, B");
 }
 
+/// "A zero in the image's frames field shall mean 4."; each number written out has its own room, and one page
+/// less than the wrapper says is refused.
+#[test]
+fn least_main_pages() {
+    for frames in (0..=32).filter(|&frames| frames != 1) {
+        let file = console(&[(3, &[])], 0, frames);
+        let about = image(&file).unwrap();
+        let a = if frames == 0 { 4 } else { frames };
+        assert_eq!((about.frames, about.least_main_pages()), (frames, 1 + a as usize));
+        let machine = Machine::load(&file, about.least_main_pages()).unwrap();
+        assert_eq!(machine.record()[FRAMES], a);
+        let less = Machine::load(&file, about.least_main_pages() - 1);
+        assert_eq!(less.err(), Some(Refusal::Room), "frames {frames}");
+    }
+    for frames in [1, 33, u32::MAX] {
+        assert_eq!(image(&console(&[(3, &[])], 0, frames)), Err(Refusal::Format));
+        assert_eq!(Image { ptl: 1, start: 0, frames }.least_main_pages(), 0);
+    }
+}
+
+/// The same form with two frames and with a zero: nearly every hop loads a page, or each page comes once.
+#[test]
+fn a_form_over_four_pages() {
+    let loads = |file, pages| Machine::load(file, pages).unwrap().run(1000).unwrap().loads;
+    assert_eq!((loads(HOP, 5), loads(STAY, 5)), (206, 4));
+}
+
 #[test]
 fn stops() {
     let stop_of = |word: u32, start: u32| {
-        let mut machine = Machine::load(&console(&[(3, &[word])], start, 0), 3).unwrap();
+        let mut machine = Machine::load(&console(&[(3, &[word])], start, 0), 5).unwrap();
         let before = *machine.record();
         let stop = machine.run(1).unwrap().stop;
         assert_eq!(machine.record()[GPR..], before[GPR..]);
@@ -102,10 +130,10 @@ fn refusals() {
     assert_eq!(Machine::load(&file[..23], 5).err(), Some(Refusal::Edition));
     assert_eq!(image(&console(&[(3, &[])], 0, 1)), Err(Refusal::Format));
     assert_eq!(Machine::load(&console(&[(4, &[])], 0, 0), 5).err(), Some(Refusal::Format));
-    for pages in [0, 2, 65, usize::MAX] {
+    for pages in [0, 2, 3, 4, 65, usize::MAX] {
         assert_eq!(Machine::load(&file, pages).err(), Some(Refusal::Room));
     }
-    assert!(Machine::load(&file, 3).is_ok() && Machine::load(&file, 64).is_ok());
+    assert!(Machine::load(&file, 5).is_ok() && Machine::load(&file, 64).is_ok());
 
     let mut machine = Machine::load(&file, 5).unwrap();
     assert_eq!(machine.run(0), Ok(Ran { stop: Stop::Limit, finished: 0, loads: 0, copied: 0 }));
@@ -192,7 +220,7 @@ fn marks() {
 /// A change by hand under a page without a mark is refused 2, wherever the byte is.
 #[test]
 fn changes_by_hand_need_a_mark() {
-    let mut machine = Machine::load(&one_page(), 3).unwrap();
+    let mut machine = Machine::load(&one_page(), 5).unwrap();
     machine.run(1).unwrap();
     let (record, main, swap) = machine.into_parts();
     let mut marked = record;
@@ -219,7 +247,7 @@ fn changes_by_hand_need_a_mark() {
 
 #[test]
 fn parts_that_do_not_fit() {
-    let (record, main, swap) = Machine::load(&one_page(), 3).unwrap().into_parts();
+    let (record, main, swap) = Machine::load(&one_page(), 5).unwrap().into_parts();
     let mut empty = Machine::from_parts(record, Vec::new(), Vec::new());
     assert_eq!(empty.run(1), Err(Refusal::Bound));
     assert_eq!(empty.read(0, &mut []), Err(Refusal::Bound));

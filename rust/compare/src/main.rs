@@ -59,6 +59,10 @@ impl Engine for Proved {
         ImageAnswer { refusal, ptl, start, frames, pages, rights }
     }
 
+    fn least_main_pages(&mut self, frames: u32) -> u32 {
+        calls::least_main_pages(frames)
+    }
+
     fn set_spare(&mut self, state: &mut State, page: u32, value: u16) -> bool {
         with(state, |machine| machine.set_spare(page, value))
     }
@@ -170,7 +174,7 @@ mod tests {
     fn wrong_lengths() {
         let file =
             [vec![0; PAGE], vec![3], [25u32, 4121, 1, 0, 0, 1].map(u32::to_le_bytes).concat()].concat();
-        let (mut main, mut swap) = (vec![0xA5; 3 * PAGE], vec![0x5A; PAGE]);
+        let (mut main, mut swap) = (vec![0xA5; 5 * PAGE], vec![0x5A; PAGE]);
         for len in [0, 74, 76, 150] {
             let mut words = vec![BEFORE; len];
             assert_eq!(calls::load(&file, &mut main, &mut swap, &mut words), 1);
@@ -212,6 +216,14 @@ mod tests {
         assert!((record, main, swap) == good);
     }
 
+    /// Of every frames that an image may have, and some that none has.
+    #[test]
+    fn the_least_main_pages_are_those_of_the_peer() {
+        for frames in (0..1000).chain(u32::MAX - 9..=u32::MAX) {
+            assert_eq!(Proved.least_main_pages(frames), Peer.least_main_pages(frames), "frames {frames}");
+        }
+    }
+
     /// The trap image, cut at every length from either end: the reader and the loader answer as the peer's do.
     #[test]
     fn images_cut_at_every_length() {
@@ -219,9 +231,11 @@ mod tests {
         for n in 0..=image.len() {
             for cut in [&image[..n], &image[n..]] {
                 assert_eq!(Proved.read_image(cut), Peer.read_image(cut), "{} bytes", cut.len());
-                let lent = State { words: [7; 75], main: vec![9; 3 * 4096], swap: vec![9; 4096] };
+                let lent = State { words: [7; 75], main: vec![9; 5 * 4096], swap: vec![9; 4096] };
                 let (mut ours, mut theirs) = (lent.clone(), lent);
-                assert_eq!(Proved.load(cut, &mut ours), Peer.load(cut, &mut theirs), "{} bytes", cut.len());
+                let refusal = Proved.load(cut, &mut ours);
+                assert_eq!(refusal == 0, cut.len() == image.len(), "{} bytes", cut.len());
+                assert_eq!(refusal, Peer.load(cut, &mut theirs), "{} bytes", cut.len());
                 assert!(ours == theirs, "{} bytes", cut.len());
             }
         }

@@ -30,7 +30,8 @@ pub enum Answer {
     Code(u32),
     Ran([u32; 6]),
     Bytes(u32, Vec<u8>),
-    Image(ImageAnswer),
+    /// The reader's answer, and the main pages for the frames that stand in the trailer, right or not.
+    Image(ImageAnswer, u32),
     /// Whether the bits were changed, and what stands there then.
     Spare(bool, Option<u16>),
 }
@@ -185,7 +186,10 @@ impl Call {
                 *state = State { words: [0xDEAD; WORDS], main: vec![0xA5; *main], swap: vec![0x5A; *swap] };
                 return Answer::Code(engine.load(&image.bytes(), state));
             }
-            Call::Image(image) => return Answer::Image(engine.read_image(&image.bytes())),
+            Call::Image(image) => {
+                let least = engine.least_main_pages(image.trailer[4]);
+                return Answer::Image(engine.read_image(&image.bytes()), least);
+            }
             Call::Run(limit) => return Answer::Ran(engine.run(state, *limit)),
             Call::Read(va, len) => {
                 let mut buffer = vec![0xEE; *len];

@@ -145,7 +145,7 @@ impl Stats {
         let refusal = match answer {
             Answer::Nothing => return,
             Answer::Code(refusal) | Answer::Bytes(refusal, _) => *refusal,
-            Answer::Image(image) => image.refusal,
+            Answer::Image(image, _) => image.refusal,
             Answer::Ran(ran) => ran[0],
             Answer::Spare(done, _) => {
                 self.spares[usize::from(*done)] += 1;

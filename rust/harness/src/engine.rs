@@ -41,6 +41,8 @@ pub trait Engine {
     fn page_view(&mut self, state: &mut State, page: u32) -> (u32, Vec<u8>);
     fn reply(&mut self, state: &mut State, register: u32, value: u32) -> u32;
     fn read_image(&mut self, image: &[u8]) -> ImageAnswer;
+    /// How many main pages an image with these frames needs at least; 0 where no image has them.
+    fn least_main_pages(&mut self, frames: u32) -> u32;
     /// What the host does between calls: other bits 11–3 in the entry of a page; whether it was done. It is
     /// no call of the machine, so an engine need not bring its own.
     fn set_spare(&mut self, state: &mut State, page: u32, value: u16) -> bool {
@@ -120,5 +122,9 @@ impl Engine for Peer {
             },
             Err(refusal) => ImageAnswer { refusal, ..ImageAnswer::default() },
         }
+    }
+
+    fn least_main_pages(&mut self, frames: u32) -> u32 {
+        peer::least_main_pages(frames)
     }
 }

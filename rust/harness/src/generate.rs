@@ -153,11 +153,13 @@ impl Generator {
         if self.rng.one_in(5) {
             image = self.damaged(image);
         }
-        let (ptl, frames) = (image.trailer[2].min(1025) as usize, image.trailer[4].clamp(2, 33) as usize);
-        let mut main = 4096 * self.rng.pick(&[1 + frames, 1 + frames, 2 + frames, 3, 8, 64]).max(3);
+        let (ptl, frames) = (image.trailer[2].min(1025) as usize, image.trailer[4]);
+        // 3 and 4 pages are too few for a zero in frames, which means 4.
+        let least = peer::least_main_pages(frames).max(3) as usize;
+        let mut main = 4096 * self.rng.pick(&[least, least, least, 1 + least, 3, 4, 8, 64]);
         let mut swap = 4096 * ptl;
         if self.rng.one_in(8) {
-            let wrong = self.rng.pick(&[4096 * frames, main + 1, main - 1, 4096 * 65, 4096 * 2, 0]);
+            let wrong = self.rng.pick(&[4096 * (least - 1), main + 1, main - 1, 4096 * 65, 4096 * 2, 0]);
             (main, swap) = self.rng.pick(&[(wrong, swap), (main, swap + 4096), (main, swap.wrapping_sub(1))]);
             swap = swap.min(5 << 20);
         }

@@ -18,8 +18,14 @@ type Mark = fn(&Record, u32, usize, &mut Record);
 /// Puts right what a check does not look at.
 type Blind = fn(&mut Record, &mut [u8], &mut [u8]);
 
+/// What loading takes a zero in an image's frames for, with this many whole pages of main memory.
+type Zero = fn(usize) -> u32;
+
+/// The main pages that are said to be the least for some frames.
+type Least = fn(u32) -> u32;
+
 /// The peer, stepped one instruction at a time through `step` and `touch`, its promises checked, or its host
-/// write, its check or its host's `spare` wrong.
+/// write, its check, its host's `spare`, its loading or the main pages that it asks for wrong.
 #[derive(Default)]
 struct Stepped {
     step: Option<Step>,
@@ -27,6 +33,8 @@ struct Stepped {
     spare: Option<Spare>,
     mark: Option<Mark>,
     blind: Option<Blind>,
+    zero: Option<Zero>,
+    least: Option<Least>,
     /// Every page that leaves counts as copied.
     copies_all: bool,
     /// Spoil every step of this opcode, or of function (code − 64).
@@ -123,7 +131,13 @@ fn unchanged<T>(state: &mut State, looks: bool, call: impl FnOnce(&mut State) ->
 impl Engine for Stepped {
     fn load(&mut self, image: &[u8], state: &mut State) -> u32 {
         let before = state.clone();
-        let refusal = Peer.load(image, state);
+        let mut image = image.to_vec();
+        if let (Some(zero), Some(at)) = (self.zero, image.len().checked_sub(24)) {
+            if image[at + 16..at + 20] == [0; 4] {
+                image[at + 16..at + 20].copy_from_slice(&zero(state.main.len() / PAGE).to_le_bytes());
+            }
+        }
+        let refusal = Peer.load(&image, state);
         assert!(refusal == 0 || (&state.main, &state.swap) == (&before.main, &before.swap));
         refusal
     }
@@ -181,6 +195,10 @@ impl Engine for Stepped {
 
     fn read_image(&mut self, image: &[u8]) -> ImageAnswer {
         Peer.read_image(image)
+    }
+
+    fn least_main_pages(&mut self, frames: u32) -> u32 {
+        self.least.map_or(Peer.least_main_pages(frames), |least| least(frames))
     }
 
     fn set_spare(&mut self, state: &mut State, page: u32, value: u16) -> bool {
@@ -326,6 +344,38 @@ fn checks_that_do_not_look_are_caught() {
     for (seed, (name, blind)) in (60..).zip(blinds) {
         let report = caught(seed, Stepped { blind: Some(blind), ..Stepped::default() });
         assert!(report.starts_with("answers differ"), "{name}: {report}");
+    }
+}
+
+/// "A zero in the image's frames field shall mean 4."; "A lent main memory with room for fewer than four frames
+/// was accepted before with a zero. Refusals: that case is now 7."
+#[test]
+fn a_zero_that_does_not_mean_four_is_caught() {
+    let zeros: [(&str, Zero); 5] = [
+        ("it means 2", |_| 2),
+        ("it means 3", |_| 3),
+        ("it means 5", |_| 5),
+        ("four main pages are taken", |pages| if pages == 4 { 3 } else { 4 }),
+        ("three main pages are taken", |pages| if pages == 3 { 2 } else { 4 }),
+    ];
+    for (seed, (name, zero)) in (80..).zip(zeros) {
+        let report = caught(seed, Stepped { zero: Some(zero), ..Stepped::default() });
+        assert!(report.contains("differ") && report.contains("load"), "{name}: {report}");
+    }
+}
+
+#[test]
+fn wrong_least_main_pages_are_caught() {
+    let leasts: [(&str, Least); 5] = [
+        ("three for a zero", |frames| if frames == 0 { 3 } else { peer::least_main_pages(frames) }),
+        ("without the table's page", |frames| peer::least_main_pages(frames).saturating_sub(1)),
+        ("none for frames 32", |frames| if frames == 32 { 0 } else { peer::least_main_pages(frames) }),
+        ("some for frames 1", |frames| peer::least_main_pages(frames).max(2)),
+        ("some for frames 33", |frames| if frames == 33 { 34 } else { peer::least_main_pages(frames) }),
+    ];
+    for (seed, (name, least)) in (90..).zip(leasts) {
+        let report = caught(seed, Stepped { least: Some(least), ..Stepped::default() });
+        assert!(report.starts_with("answers differ") && report.contains("image"), "{name}: {report}");
     }
 }
 

@@ -14,6 +14,30 @@ pub struct ImageInfo<'i> {
     pub rights: &'i [u8],
 }
 
+/// "Frames is 2 to 32, or 0".
+fn is_frames(frames: u32) -> bool {
+    frames == 0 || (2..=32).contains(&frames)
+}
+
+/// "A zero in the image's frames field shall mean 4."
+fn meant(frames: u32) -> u32 {
+    if frames == 0 {
+        4
+    } else {
+        frames
+    }
+}
+
+/// The fewest pages of main memory for an image with these frames as written, "at least 1+frames"; 0 for
+/// frames that no image has.
+pub fn least_main_pages(frames: u32) -> u32 {
+    if is_frames(frames) {
+        1 + meant(frames)
+    } else {
+        0
+    }
+}
+
 /// Reads a console image, from its end.
 pub fn read_image(image: &[u8]) -> Result<ImageInfo<'_>, u32> {
     let len = image.len();
@@ -25,7 +49,7 @@ pub fn read_image(image: &[u8]) -> Result<ImageInfo<'_>, u32> {
     if edition != 1 {
         return Err(refusal::NO_IMAGE);
     }
-    if !(1..=1024).contains(&ptl) || start % 4 != 0 || !(frames == 0 || (2..=32).contains(&frames)) {
+    if !(1..=1024).contains(&ptl) || start % 4 != 0 || !is_frames(frames) {
         return Err(refusal::TRAILER);
     }
     let rights_back = TRAILER + ptl as usize;
@@ -47,7 +71,7 @@ pub fn read_image(image: &[u8]) -> Result<ImageInfo<'_>, u32> {
 /// Makes a fresh machine of an image in the lent memories.
 pub fn load(image: &[u8], main: &mut [u8], swap: &mut [u8]) -> Result<Record, u32> {
     let info = read_image(image)?;
-    let frames = if info.frames == 0 { 2 } else { info.frames };
+    let frames = meant(info.frames);
     let p = main.len() / PAGE;
     let main_fits = main.len() == PAGE * p && (3..=64).contains(&p) && p > frames as usize;
     if !main_fits || swap.len() != info.pages.len() {

@@ -13,7 +13,7 @@ mod record;
 
 pub use cpu::{run, Ran};
 pub use host::{host_read, host_write, page_view, reply, set_spare, spare};
-pub use image::{console, load, read_image, ImageInfo};
+pub use image::{console, least_main_pages, load, read_image, ImageInfo};
 pub use notation::{assemble, list, Bad};
 pub use record::{Record, WORDS};
 

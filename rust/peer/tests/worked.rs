@@ -190,6 +190,25 @@ fn the_program_prints() {
     assert_eq!(info.pages.as_ptr(), file.as_ptr());
 }
 
+/// "A zero in the image's frames field shall mean 4."; with fewer than five main pages, which "was accepted
+/// before with a zero", it is refused 7. Each number written out has its own room.
+#[test]
+fn a_zero_in_frames_means_four() {
+    let loaded = |frames, pages| {
+        let file = image(&[3], 0, frames, &[]);
+        assert_eq!(read_image(&file).unwrap().frames, frames, "as written");
+        load(&file, &mut vec![0; PAGE * pages], &mut [0; PAGE]).map(|rec| rec.a)
+    };
+    for (frames, pages, a) in [(0, 5, 4), (0, 64, 4), (2, 3, 2), (3, 4, 3), (4, 5, 4), (32, 33, 32)] {
+        assert_eq!(loaded(frames, pages), Ok(a), "frames {frames}, {pages} main pages");
+    }
+    for (frames, pages) in [(0, 3), (0, 4), (0, 65), (2, 2), (3, 3), (4, 4), (32, 32)] {
+        assert_eq!(loaded(frames, pages), Err(7), "frames {frames}, {pages} main pages");
+    }
+    let leasts = [0, 2, 3, 4, 32, 1, 33, u32::MAX].map(least_main_pages);
+    assert_eq!(leasts, [5, 3, 4, 5, 33, 0, 0, 0]);
+}
+
 #[test]
 fn an_instruction_acts_from_the_old_values() {
     // jal in the delay slot of a jump links the first target plus 4; jalr 31 goes to the old GPR 31.

@@ -1,5 +1,5 @@
--- `format::well_formed`: three steps of the row.
-use Rattle.image.proofs.Tests.{distances-wrong, rights-wrong, the-rest}
+-- `format::well_formed`: four steps of the row.
+use Rattle.image.proofs.Tests.{distances-wrong, rights-wrong, start-wrong, frames-decide}
 use borrow.Author.Needs.{needs}
 use Rattle.image.proofs.format.well_formed.Statement.{statement}
 use Rattle.image.proofs.format.well_formed.Tie as tie
@@ -18,12 +18,21 @@ returns-2 c =
 
 returns-3 : tie.Need-returns-3
 returns-3 c =
-    let near = c .before .before .before .before in
+    let far = c .before .before in
+    let near = far .before .before .before in
     let k = near .before .before .before in
-    the-rest _ (k .args .t) (k .pre) _ (near .before .distances-right .ensures) (near .if1 .left) _ (c .before .before .before .rights-of .ensures .bytes)
-    _ (c .before .before .rights-right .ensures) (c .before .if2 .left) _ (c .start-and-frames-right .ensures)
+    start-wrong _ (k .args .t) (k .pre) _ (near .before .distances-right .ensures) (near .if1 .left)
+    _ (far .before .before .rights-of .ensures .bytes) _ (far .before .rights-right .ensures) (far .if2 .left) (search needs)
+
+returns-4 : tie.Need-returns-4
+returns-4 c =
+    let far = c .before .before .before in
+    let near = far .before .before .before in
+    let k = near .before .before .before in
+    frames-decide _ (k .args .t) (k .pre) _ (near .before .distances-right .ensures) (near .if1 .left)
+    _ (far .before .before .rights-of .ensures .bytes) _ (far .before .rights-right .ensures) (far .if2 .left) (search needs) _ (c .frames-right .ensures)
 
 pub well-formed-spec : {M : Type 1} → statement M
 well-formed-spec =
     tie.close
-    (tie.spec (λ c κs. search needs) returns (λ c κs. search needs) (λ c κs. search needs) returns-2 (λ c κs. search needs) returns-3)
+    (tie.spec (λ c κs. search needs) returns (λ c κs. search needs) (λ c κs. search needs) returns-2 returns-3 (λ c κs. search needs) returns-4)

@@ -20,6 +20,10 @@ static size_t length, main_length, swap_length;
 #define MACHINE record, BRENWYTHAL_RECORD, main_memory, main_length, swap, swap_length
 
 static uint32_t image(void) { return brenwythal_image(file, length, about, BRENWYTHAL_IMAGE_ANSWER); }
+static uint32_t least(void) {
+    main_length = (size_t)brenwythal_least_main_pages(about[BRENWYTHAL_IMAGE_FRAMES]) * BRENWYTHAL_PAGE;
+    return main_length == 0;
+}
 static uint32_t load(void) {
     return brenwythal_load(file, length, main_memory, main_length, swap, swap_length, record, BRENWYTHAL_RECORD);
 }
@@ -48,16 +52,16 @@ int main(int count, char **words) {
     length = fread(file, 1, sizeof file, in);
     fclose(in);
     if (image() != 0) return 2;
-    main_length = (size_t)(1 + (about[BRENWYTHAL_IMAGE_FRAMES] == 0 ? 2 : about[BRENWYTHAL_IMAGE_FRAMES])) * BRENWYTHAL_PAGE;
     swap_length = (size_t)about[BRENWYTHAL_IMAGE_PTL] * BRENWYTHAL_PAGE;
 
     const struct {
         const char *name;
         uint32_t (*call)(void);
         size_t most;
-    } calls[] = {{"image", image, MACHINES}, {"load", load, MACHINES},   {"run", run, MACHINES},
-                 {"read", read, MACHINES},   {"write", write, MACHINES}, {"view", view, MACHINES},
-                 {"reply", reply, MACHINES}, {"assemble", assemble, MAKERS}, {"list", list, MAKERS}};
+    } calls[] = {{"image", image, MACHINES}, {"least main pages", least, MACHINES}, {"load", load, MACHINES},
+                 {"run", run, MACHINES},     {"read", read, MACHINES},              {"write", write, MACHINES},
+                 {"view", view, MACHINES},   {"reply", reply, MACHINES},            {"assemble", assemble, MAKERS},
+                 {"list", list, MAKERS}};
     int bad = 0;
     for (size_t i = 0; i < sizeof calls / sizeof calls[0]; i++) {
         uint32_t refused;

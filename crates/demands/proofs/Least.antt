@@ -50,8 +50,8 @@ every-least l e =
     let k = t .0 in
     let f = t .1 in
     record {
-      three = omega (arith, one-more l k f, frames-few l k f);
-      room-left = omega (arith, one-more l k f, frames-few l k f);
+      pages-least = omega (arith, one-more l k f, frames-few l k f);
+      pages-most = omega (arith, one-more l k f, frames-few l k f);
       enough = enough l k f;
       fewer = fewer l k f;
     }

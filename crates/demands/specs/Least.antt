@@ -1,6 +1,6 @@
--- Hosts ask how many main pages an image needs at least (`leastMainPages`), by the frames that the reader answered. Of an image that the
--- reader takes that number says the whole rule on main memory: so many whole pages, or more up to 64, are taken, and less is refused 7.
--- The theorem is `every-least` of proofs/Least.
+-- Hosts ask how many main pages an image needs at least (`leastMainPages`), by the frames that the reader answered. What they are told is
+-- loading's own rule: of an image that the reader takes, so many whole pages, or more up to 64, are taken, and less is refused 7. The
+-- theorem is `every-least` of proofs/Least.
 use mathlib.Core.Path.{_≡_}
 use mathlib.Core.List.{List}
 use Prim.Native.Nat.{ℕ, _*_, _≤_, _<_}
@@ -9,9 +9,9 @@ use Rattle.model.specs.State.{Memory}
 use Rattle.model.specs.Image.{ptlOf, framesOf, imageCall, leastMainPages, loadCall}
 
 pub record Least (l : List ℕ) : Type 0 where
-  -- "main memory 3 to 64 whole pages": with 32 frames there are 33
-  pub three : 3 ≤ leastMainPages (framesOf l)
-  pub room-left : leastMainPages (framesOf l) ≤ 33
+  -- it is itself a number of pages that may be lent, of "3 to 64"
+  pub pages-least : 3 ≤ leastMainPages (framesOf l)
+  pub pages-most : leastMainPages (framesOf l) ≤ 33
   -- "at least 1+frames", where "A zero in the image's frames field shall mean 4."
   pub enough : (m : Memory) (n : ℕ) → length (m .main) ≡ 4096 * n → leastMainPages (framesOf l) ≤ n → n ≤ 64
       → length (m .swap) ≡ 4096 * ptlOf l → loadCall l m .verdict .refused ≡ 0

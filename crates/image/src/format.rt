@@ -41,7 +41,7 @@ fn rights_right(rights: &[u8]) -> bool
     true
 }
 
-// "Frames is 2 to 32, or 0"
+// "Frames is 2 to 32, or 0": of an image, and of the frames that a host asks loading about.
 pub fn frames_right(frames: u32) -> bool
     ensures { λ r. ⌜ r ≡ framesRight frames ⌝ }
 {

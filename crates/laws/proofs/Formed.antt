@@ -2,9 +2,9 @@
 -- and loading come to for an image that is accepted.
 use mathlib.Core.Path.{_≡_, refl}
 use mathlib.Core.Bool.{Bool, true, false, _||_, _&&_}
-use mathlib.Core.Logic.{_⊎_, inl, inr}
+use mathlib.Core.Logic.{inl, inr}
 use mathlib.Core.List.{List}
-use Prim.Native.Nat.{ℕ, _+_, _≤_}
+use Prim.Native.Nat.{ℕ, _+_}
 use lib.Dec.{eqb, leb}
 use lib.ListN.{length}
 use borrow.Author.Tests.{leb-true, eqb-true, le-leb, eq-eqb}
@@ -15,25 +15,25 @@ use Rattle.model.specs.Image.{ptlOf, framesOf, known, framesRight, wellFormed, 
 use Rattle.model.specs.declared.Refusal.the-variants.{Edition, Format, Room}
 use Rattle.model.specs.declared.Verdict.{Verdict}
 use Rattle.model.specs.declared.Verdict.the-variants.{Granted, Refused}
-use Rattle.laws.specs.Formed.{Known, Formed, Roomy, Accepted}
+use Rattle.laws.specs.Formed.{Known, SomeFrames, Formed, Roomy, Accepted}
 use Rattle.laws.proofs.Choice.{and-left, and-right, and-both, or-left, or-right, every-at, every-from, pass, pass-none, pass-more}
 use Rattle.laws.proofs.Granted.{granted, unless-granted}
 
 -- ---- tests and facts
 -- "Frames is 2 to 32, or 0"
 module _ (n : ℕ) where
-  pub some-frames : framesRight n ≡ true → (n ≡ 0) ⊎ ((2 ≤ n) × (n ≤ 32))
+  pub some-frames : framesRight n ≡ true → SomeFrames n
   some-frames e = pick (eqb n 0) refl e
     where
-      pick : (c : Bool) → eqb n 0 ≡ c → (c || leb 2 n && leb n 32) ≡ true → (n ≡ 0) ⊎ ((2 ≤ n) × (n ≤ 32))
+      pick : (c : Bool) → eqb n 0 ≡ c → (c || leb 2 n && leb n 32) ≡ true → SomeFrames n
       pick true q r = inl (eqb-true n 0 q)
       pick false q r = inr (leb-true 2 n (and-left (leb 2 n) _ r), leb-true n 32 (and-right (leb 2 n) _ r))
 
-  frames-right : (n ≡ 0) ⊎ ((2 ≤ n) × (n ≤ 32)) → framesRight n ≡ true
+  frames-right : SomeFrames n → framesRight n ≡ true
   frames-right (inl q) = or-left _ _ (eq-eqb n 0 q)
   frames-right (inr q) = or-right (eqb n 0) _ (and-both _ _ (le-leb 2 n (q .0)) (le-leb n 32 (q .1)))
 
-  pub least-pages : (n ≡ 0) ⊎ ((2 ≤ n) × (n ≤ 32)) → leastMainPages n ≡ 1 + meant n
+  pub least-pages : SomeFrames n → leastMainPages n ≡ 1 + meant n
   unfolding leastMainPages
   least-pages h = rw (frames-right h)
 

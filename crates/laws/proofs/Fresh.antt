@@ -2,7 +2,7 @@
 -- is good (`fresh-good`), and its flat machine has the image's pages and rights (`fresh-bytes`, `fresh-rights`).
 use mathlib.Core.Path.{_≡_, refl, sym, ap, _∙_}
 use mathlib.Core.Bool.{false, true≢false}
-use mathlib.Core.Logic.{_⊎_, inl, inr}
+use mathlib.Core.Logic.{inl, inr}
 use mathlib.Core.List.{List, [], _∷_, _++_}
 use Prim.Native.Nat.{ℕ, zero, suc, _+_, _*_, _<_, _≤_}
 use native.Mathlib.Omega.{arith}
@@ -21,7 +21,7 @@ use Rattle.model.specs.State.{Memory, State}
 use Rattle.model.specs.Image.{invalidEntry, ptlOf, framesOf, rightsOf, pagesOf, meant, invalidEntries, fresh}
 use Rattle.model.specs.declared.VirtualPage.{VirtualPage}
 use Rattle.laws.specs.Good.{Fit, Hand, Seated, Good}
-use Rattle.laws.specs.Formed.{Formed, Accepted}
+use Rattle.laws.specs.Formed.{SomeFrames, Formed, Accepted}
 use Rattle.laws.proofs.Choice.{length-below, getD-below}
 use Rattle.laws.proofs.Bytes.{number-same}
 use Rattle.laws.proofs.Table.{flat-away}
@@ -61,7 +61,7 @@ number-entries (b ∷ r) tail (suc x) h =
     ∙ number-entries r tail x (le-of-suc-le-suc h)
 
 -- ---- frames: as written, or the 4 of a zero
-pub meant-bounds : (n : ℕ) → (n ≡ 0) ⊎ ((2 ≤ n) × (n ≤ 32)) → (2 ≤ meant n) × (meant n ≤ 32)
+pub meant-bounds : (n : ℕ) → SomeFrames n → (2 ≤ meant n) × (meant n ≤ 32)
 meant-bounds n (inl e) = rw e (omega arith, omega arith)
 meant-bounds n (inr h) = rw (ne-eqb n 0 (λ e. omega (arith, h .0, e))) h
 

@@ -13,6 +13,10 @@ pub record Known (l : List ℕ) : Type 0 where
   pub long : 24 ≤ length l
   pub edition : trailer l 5 ≡ 1
 
+-- "Frames is 2 to 32, or 0"
+abbrev pub SomeFrames : ℕ → Type 0
+SomeFrames n = (n ≡ 0) ⊎ ((2 ≤ n) × (n ≤ 32))
+
 -- every trailer number, each rights byte and the label's length keeps its rule
 pub record Formed (l : List ℕ) : Type 0 where
   -- "With ptl 1 to 1024, the distances must be 24+ptl and 24+ptl+4096·ptl and lie within the file."
@@ -27,8 +31,7 @@ pub record Formed (l : List ℕ) : Type 0 where
   pub rights-most : (x : ℕ) → x < ptlOf l → getD (rightsOf l) x 0 ≤ 3
   -- "Start is a multiple of 4."
   pub start-aligned : startOf l % 4 ≡ 0
-  -- "Frames is 2 to 32, or 0"
-  pub frames-known : (framesOf l ≡ 0) ⊎ ((2 ≤ framesOf l) × (framesOf l ≤ 32))
+  pub frames-known : SomeFrames (framesOf l)
 
 -- "Swap must be 4096·ptl bytes; main memory 3 to 64 whole pages, at least 1+frames."
 pub record Roomy (frames ptl mainLength swapLength : ℕ) : Type 0 where

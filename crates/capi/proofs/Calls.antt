@@ -5,9 +5,9 @@ use Prim.Native.Nat.{ℕ}
 use lib.ListN.{length}
 use borrow.Author.Tests.{eq-eqb, ne-eqb}
 use Rattle.model.specs.State.{memory, state}
-use Rattle.model.specs.Answers.{refusalNumber, verdictNumbers, runNumbers, imageNumbers}
+use Rattle.model.specs.Answers.{refusalNumber, verdictNumbers, runNumbers}
 use Rattle.model.specs.Calls.{StateOutcome, RunOutcome, runVerdict, runOutcome, runCall, readCall, writeCall, replyVerdict, replyCall}
-use Rattle.model.specs.Image.{loadCall, imageCall}
+use Rattle.model.specs.Image.{loadCall}
 use Rattle.model.specs.declared.Machine.{Machine}
 use Rattle.model.specs.declared.Refusal.{Refusal}
 use Rattle.model.specs.declared.Refusal.the-variants.{Bound}
@@ -15,7 +15,6 @@ use Rattle.model.specs.declared.Verdict.{Verdict}
 use Rattle.model.specs.declared.Verdict.the-variants.{Granted, Refused}
 use Rattle.model.specs.declared.RunAnswer.{RunAnswer}
 use Rattle.model.specs.declared.RunAnswer.the-variants.{NotRun}
-use Rattle.model.specs.declared.ImageAnswer.{ImageAnswer}
 use Rattle.record.specs.Words.{recordLength, machineOf, wordsOf, withRegister}
 use Rattle.notation.specs.Calls.{assembleNumbers, assembleOutcome, assembleCall, listNumbers, listOutcome, listCall}
 use Rattle.notation.specs.declared.AssembleAnswer.{AssembleAnswer}
@@ -107,17 +106,6 @@ module _ (words : List ℕ) (i v : ℕ) where
 
     pub reply-not : (r : Refusal) → u ≡ Refused r → (n : ℕ) → n ≡ refusalNumber r → record { returned = n; words = words } ≡ calls.reply words i v
     reply-not r h n en = rw en (sym (reply-refused words e r i v (sym eu ∙ h)))
-
--- ---- image
-module _ (file answer : List ℕ) where
-  pub image-short : (length answer ≡ 3 → ⊥) → record { returned = refusalNumber Bound; answer = answer } ≡ calls.image file answer
-  unfolding calls.image
-  image-short n = simp (ne-eqb _ _ n)
-
-  pub image-whole : length answer ≡ 3 → (a : ImageAnswer) → imageNumbers a ≡ imageCall file .numbers
-      → (r : ℕ) (w : List ℕ) → (r ≡ imageNumbers a .verdict .refused) × (w ≡ calls.imageWords (imageNumbers a)) → record { returned = r; answer = w } ≡ calls.image file answer
-  unfolding calls.image
-  image-whole e a ea r w ew = rw (ew .0, ew .1) (ap calls.imaged ea ∙ simp (eq-eqb _ _ e))
 
 -- ---- assemble and list
 module _ (given out answer : List ℕ) where

@@ -8,9 +8,9 @@ use lib.ListN.{length}
 use Rattle.model.specs.Choice.{if_then_else_}
 use Rattle.model.specs.Pages.{virtual}
 use Rattle.model.specs.State.{State, memory, state}
-use Rattle.model.specs.Answers.{refusalNumber, RunNumbers, ImageNumbers}
+use Rattle.model.specs.Answers.{refusalNumber, RunNumbers}
 use Rattle.model.specs.Calls.{RunOutcome, StateOutcome, ReadOutcome, ViewOutcome, ReplyOutcome, runCall, readCall, writeCall, viewCall, replyCall}
-use Rattle.model.specs.Image.{loadCall, imageCall}
+use Rattle.model.specs.Image.{loadCall}
 use Rattle.model.specs.declared.Refusal.the-variants.{Bound}
 use Rattle.record.specs.Words.{machineOf, wordsOf, whole}
 use Rattle.notation.specs.Calls.{AssembleNumbers, AssembleOutcome, assembleCall, ListNumbers, ListOutcome, listCall}
@@ -104,22 +104,6 @@ unfoldable pub reply : List ℕ → ℕ → ℕ → Replied
 reply words register value =
     if whole words then replied (replyCall (machineOf words) register value)
     else record { returned = refusalNumber Bound; words = words }
-
--- ---- image, with an answer of three words
-pub record Imaged : Type 0 where
-  pub returned : ℕ
-  pub answer : List ℕ
-
-abbrev pub imageWords : ImageNumbers → List ℕ
-imageWords n = n .ptl ∷ n .start ∷ n .frames ∷ []
-
-abbrev pub imaged : ImageNumbers → Imaged
-imaged n = record { returned = n .verdict .refused; answer = imageWords n }
-
-unfoldable pub image : List ℕ → List ℕ → Imaged
-image file answer =
-    if eqb (length answer) 3 then imaged (imageCall file .numbers)
-    else record { returned = refusalNumber Bound; answer = answer }
 
 -- ---- assemble, with an answer of three sizes; list, with an answer of one
 pub record Put : Type 0 where

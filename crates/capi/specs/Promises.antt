@@ -1,9 +1,10 @@
 -- What each exported call promises: the number that it returns and every lent slice at exit, as the record o, are those of its
--- definition. Its `ensures` cites the promise by its name, and `unique` (crates/unique) shows that no two outcomes fit it.
+-- definition. Its `ensures` cites the promise by its name, and `unique` (crates/unique) shows that no two outcomes fit it. That of the reader
+-- of images is in imagewords/specs/Image.
 use mathlib.Core.Path.{_≡_}
 use mathlib.Core.List.{List}
 use Prim.Native.Nat.{ℕ}
-use Rattle.capi.specs.Calls.{Machined, load, write, Ran, run, Filled, read, view, Replied, reply, Imaged, image, Put, assemble, list}
+use Rattle.capi.specs.Calls.{Machined, load, write, Ran, run, Filled, read, view, Replied, reply, Put, assemble, list}
 
 -- loading, of a file into both memories and a record
 abbrev pub LoadPromise : (file main swap words : List ℕ) → Machined → Type 0
@@ -28,10 +29,6 @@ ViewPromise words main swap x into o = o ≡ view words main swap x into
 -- reply, of a value to a register
 abbrev pub ReplyPromise : (words : List ℕ) → ℕ → ℕ → Replied → Type 0
 ReplyPromise words register value o = o ≡ reply words register value
-
--- the reader of images, with an answer
-abbrev pub ImagePromise : (file answer : List ℕ) → Imaged → Type 0
-ImagePromise file answer o = o ≡ image file answer
 
 -- assemble, of a text into an output, with an answer
 abbrev pub AssemblePromise : (text out answer : List ℕ) → Put → Type 0

@@ -1,11 +1,10 @@
-// An answer as words in a lent slice, by this paper's numbers.
-use model::ImageAnswer;
+// A run's answer as words in a lent slice, by this paper's numbers.
 use model::RunAnswer;
 ghost use mathlib.Core.Path.{_≡_};
 ghost use mathlib.Core.List.{[], _∷_};
 ghost use lib.ListN.{length};
 ghost use Rattle.model.specs.Answers as numbers;
-ghost use Rattle.capi.specs.Calls.{runWords, imageWords};
+ghost use Rattle.capi.specs.Calls.{runWords};
 
 fn put_five(answer: &mut [u32], stop: u32, detail: u32, finished: u32, loads: u32, copied: u32)
     requires { ⌜ length (now answer) ≡ 5 ⌝ }
@@ -41,31 +40,6 @@ pub(crate) fn put_run(answer: &mut [u32], a: RunAnswer) -> u32
         }
         RunAnswer::NotRun(r) => {
             put_five(answer, 0, 0, 0, 0, 0);
-            answers::refusal_number(r)
-        }
-    }
-}
-
-fn put_three(answer: &mut [u32], ptl: u32, start: u32, frames: u32)
-    requires { ⌜ length (now answer) ≡ 3 ⌝ }
-    ensures { λ _. ⌜ now (answer .exit) ≡ ptl ∷ start ∷ frames ∷ [] ⌝ }
-{
-    answer[0] = ptl;
-    answer[1] = start;
-    answer[2] = frames;
-}
-
-pub(crate) fn put_image(answer: &mut [u32], a: ImageAnswer) -> u32
-    requires { ⌜ length (now answer) ≡ 3 ⌝ }
-    ensures { λ r. ⌜ (r ≡ numbers.imageNumbers a .verdict .refused) × (now (answer .exit) ≡ imageWords (numbers.imageNumbers a)) ⌝ }
-{
-    match a {
-        ImageAnswer::Image { ptl, start, frames } => {
-            put_three(answer, ptl, start, frames);
-            0
-        }
-        ImageAnswer::NotImage(r) => {
-            put_three(answer, 0, 0, 0);
             answers::refusal_number(r)
         }
     }

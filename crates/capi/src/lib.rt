@@ -8,6 +8,7 @@ use model::RunAnswer;
 use model::Verdict;
 use model::VirtualPage;
 ghost use Rattle.model.specs.Promises.{LeastMainPagesPromise};
+ghost use Rattle.imagewords.specs.Image.{ImagePromise};
 ghost use Rattle.capi.specs.Promises as promises;
 
 // The words of a record, and the bytes of a page.
@@ -153,12 +154,9 @@ pub extern "C" fn brenwythal_reply(words: &mut [u32], register: u32, value: u32)
 // Reads a console image. The answer: "ptl, start and frames as written".
 #[no_mangle]
 pub extern "C" fn brenwythal_image(file: &[u8], answer: &mut [u32]) -> u32
-    ensures { λ r. ⌜ promises.ImagePromise (now (file .entry)) (now (answer .entry)) (record { returned = r; answer = now (answer .exit) }) ⌝ }
+    ensures { λ r. ⌜ ImagePromise (now (file .entry)) (now (answer .entry)) (record { returned = r; answer = now (answer .exit) }) ⌝ }
 {
-    if answer.len() != 3 {
-        return 1;
-    }
-    answer_words::put_image(answer, image::read(file))
+    imagewords::image_call(file, answer)
 }
 
 // How many main pages an image with these frames needs at least; 0 where no image has them. It returns that number itself: nothing is

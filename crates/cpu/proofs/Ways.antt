@@ -11,7 +11,8 @@ use borrow.Author.Tests.{eq-eqb, ne-eqb}
 use lib.ListN.{length, set}
 use Rattle.model.specs.Choice.{if_then_else_}
 use Rattle.model.specs.Words.{aligned, extend}
-use Rattle.model.specs.Bytes.{number, store}
+use Rattle.model.specs.Bytes.{number}
+use Rattle.model.specs.Bytes as model
 use Rattle.model.specs.Instruction.{plan, written}
 use Rattle.model.specs.Translate.{translate}
 use Rattle.model.specs.Attempt.{Tried, tried, Width, word, size, accessed, stopped, transfer, obeyLoad, obeyStore, obey, attempt}
@@ -27,7 +28,7 @@ use Rattle.laws.proofs.Access.{in-main}
 use Rattle.laws.proofs.Choice.{clash}
 use Rattle.cpu.specs.declared.access.Reached.{Reached}
 use Rattle.cpu.specs.declared.access.Reached.the-variants.{Misaligned, Illegal, Fault, At}
-use Rattle.cpu.specs.Reach.{reachedBy, reach, ended, loaded, stored, after}
+use Rattle.cpu.specs.Reach.{reachedBy, reach, ended, loaded, stored, after, load, store}
 
 -- ---- "Writes to GPR 0 are dropped."
 module _ (gpr : List ℕ) (i v : ℕ) where
@@ -52,7 +53,7 @@ pub record Place (n va : ℕ) (a : Access) (i : ℕ) : Type 0 where
   pub even : aligned n va ≡ true
   pub at : a ≡ said.At i
 
-placed : (n va : ℕ) (a : Access) (i : ℕ) → reach n va a ≡ At i → Place n va a i
+pub placed : (n va : ℕ) (a : Access) (i : ℕ) → reach n va a ≡ At i → Place n va a i
 unfolding reach
 placed n va a i e = pick (aligned n va) refl a refl
   where
@@ -73,6 +74,39 @@ inside s main g writing width va r is i at =
     let t : Place (size width) va (translate s main writing va) i = placed _ _ _ i (sym is ∙ at) in
     in-main s main g writing width va i (t .even) (t .at)
 
+-- ---- a load and a store, by what the access came to
+-- where it goes to no place, the outcome is that of r alone
+after-ended : (gpr bytes : List ℕ) (va : ℕ) (o : ℕ → Outcome) (done : ℕ → Tried) (r : Reached) → ((i : ℕ) → r ≡ At i → ⊥)
+    → tried (ended va o r) gpr bytes ≡ after gpr bytes va done r
+unfolding after
+after-ended gpr bytes va o done Misaligned n = refl
+after-ended gpr bytes va o done Illegal n = refl
+after-ended gpr bytes va o done Fault n = refl
+after-ended gpr bytes va o done (At i) n = absurd (n i refl)
+
+module _ (width : Width) (va : ℕ) (p : Pcs) (gpr bytes : List ℕ) (r : Reached) where
+  pub load-ended : (signed : Bool) (rd : ℕ) → ((i : ℕ) → r ≡ At i → ⊥) → (o : Outcome) → o ≡ loaded p va r
+      → tried o gpr bytes ≡ load width signed rd va p gpr bytes r
+  unfolding loaded load
+  load-ended signed rd none o e = rw e (after-ended gpr bytes va _ _ r none)
+
+  pub store-ended : (v : ℕ) → ((i : ℕ) → r ≡ At i → ⊥) → (o : Outcome) → o ≡ stored p va r → tried o gpr bytes ≡ store width va v p gpr bytes r
+  unfolding stored store
+  store-ended v none o e = rw e (after-ended gpr bytes va _ _ r none)
+
+  -- a load at place i: x is read, v written, g left
+  pub load-at : (signed : Bool) (rd i : ℕ) → r ≡ At i → (x : ℕ) → x ≡ number (size width) bytes i
+      → (v : ℕ) → v ≡ (if signed then extend (8 * size width) x else x) → (g : List ℕ) → g ≡ written gpr rd v
+      → (o : Outcome) → o ≡ loaded p va (At i) → tried o g bytes ≡ load width signed rd va p gpr bytes r
+  unfolding after loaded load
+  load-at signed rd i at x hx v hv g hg o e = rw (e, at, hg, hv, hx) refl
+
+  -- a store at place i leaves the bytes b
+  pub store-at : (v i : ℕ) → r ≡ At i → (b : List ℕ) → b ≡ model.store (size width) bytes i v
+      → (o : Outcome) → o ≡ stored p va (At i) → tried o gpr b ≡ store width va v p gpr bytes r
+  unfolding after stored store
+  store-at v i at b hb o e = rw (e, at, hb) refl
+
 module _ (access : Bool → ℕ → Access) (gpr bytes : List ℕ) (p : Pcs) where
   -- a transfer, whose access comes to r, is what follows r
   module _ (writing : Bool) (width : Width) (va : ℕ) (done : ℕ → Tried) (r : Reached)
@@ -88,35 +122,22 @@ module _ (access : Bool → ℕ → Access) (gpr bytes : List ℕ) (p : Pcs) whe
         pick true (said.At i) = refl
         pick false a = refl
 
-    -- where it goes to no place, the outcome is that of r alone
-    pub transfer-ended : (o : ℕ → Outcome) → ((i : ℕ) → r ≡ At i → ⊥) → tried (ended va o r) gpr bytes ≡ transfer access gpr bytes p writing width va done
-    unfolding after
-    transfer-ended o none = pick r none ∙ transfers
-      where
-        pick : (r : Reached) → ((i : ℕ) → r ≡ At i → ⊥) → tried (ended va o r) gpr bytes ≡ after gpr bytes va done r
-        pick Misaligned n = refl
-        pick Illegal n = refl
-        pick Fault n = refl
-        pick (At i) n = absurd (n i refl)
+  -- a load and a store are what the model makes of them
+  pub load-obeys : (width : Width) (signed : Bool) (rd va : ℕ) (r : Reached) → r ≡ reach (size width) va (access false va)
+      → (t : Tried) → t ≡ load width signed rd va p gpr bytes r → t ≡ obeyLoad access gpr bytes p width signed rd va
+  unfolding obeyLoad load
+  load-obeys width signed rd va r is t e = e ∙ transfers false width va _ r is
 
-  -- a load at place i: x is read, v written, g left
-  pub load-at : (width : Width) (signed : Bool) (rd va : ℕ) (r : Reached) → r ≡ reach (size width) va (access false va)
-      → (i : ℕ) → r ≡ At i → (x : ℕ) → x ≡ number (size width) bytes i → (v : ℕ) → v ≡ (if signed then extend (8 * size width) x else x)
-      → (g : List ℕ) → g ≡ written gpr rd v → tried (loaded p va (At i)) g bytes ≡ obeyLoad access gpr bytes p width signed rd va
-  unfolding obeyLoad after loaded
-  load-at width signed rd va r is i at x hx v hv g hg = rw (hg, hv, hx) (transfers false width va _ (At i) (sym at ∙ is))
-
-  -- a store at place i leaves the bytes b
-  pub store-at : (width : Width) (va v : ℕ) (r : Reached) → r ≡ reach (size width) va (access true va) → (i : ℕ) → r ≡ At i
-      → (b : List ℕ) → b ≡ store (size width) bytes i v → tried (stored p va (At i)) gpr b ≡ obeyStore access gpr bytes p width va v
-  unfolding obeyStore after stored
-  store-at width va v r is i at b hb = rw hb (transfers true width va _ (At i) (sym at ∙ is))
+  pub store-obeys : (width : Width) (va v : ℕ) (r : Reached) → r ≡ reach (size width) va (access true va)
+      → (t : Tried) → t ≡ store width va v p gpr bytes r → t ≡ obeyStore access gpr bytes p width va v
+  unfolding obeyStore store
+  store-obeys width va v r is t e = e ∙ transfers true width va _ r is
 
   -- an attempt whose fetch goes to no place
-  pub attempt-ended : (r : Reached) → r ≡ reach 4 (p .dpc) (access false (p .dpc)) → ((i : ℕ) → access false (p .dpc) ≡ said.At i → ⊥)
+  pub attempt-ended : (r : Reached) → r ≡ reach 4 (p .dpc) (access false (p .dpc)) → ((i : ℕ) → r ≡ At i → ⊥)
       → (o : Outcome) → o ≡ loaded p (p .dpc) r → tried o gpr bytes ≡ attempt access gpr bytes p
   unfolding attempt loaded
-  attempt-ended r is none o e = rw e (transfer-ended false word (p .dpc) _ r is _ (λ i at. none i (placed _ _ _ i (sym is ∙ at) .at)))
+  attempt-ended r is none o e = rw e (after-ended gpr bytes (p .dpc) _ _ r none ∙ transfers false word (p .dpc) _ r is)
 
   -- an attempt whose fetch goes to place i: the word w, its plan t
   pub attempt-at : (i : ℕ) → At i ≡ reach 4 (p .dpc) (access false (p .dpc)) → (w : ℕ) → w ≡ number 4 bytes i

@@ -2,3 +2,4 @@
 pub mod Numbered
 pub mod Found
 pub mod Reach
+pub mod Finished

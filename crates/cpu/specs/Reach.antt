@@ -1,11 +1,15 @@
 -- What an access comes to before anything is read or written, on any memory, and what follows from it: the outcome of a load or
--- store, and the attempt that goes on from its place.
+-- store, the load or store itself, and the attempt that goes on from its place.
+use mathlib.Core.Path.{_≡_}
+use mathlib.Core.Bool.{Bool}
 use mathlib.Core.List.{List}
-use Prim.Native.Nat.{ℕ}
+use Prim.Native.Nat.{ℕ, _+_, _*_, _≤_}
 use Rattle.model.specs.Choice.{if_then_else_}
-use Rattle.model.specs.Words.{aligned}
-use Rattle.model.specs.Instruction.{onward}
-use Rattle.model.specs.Attempt.{Tried, tried}
+use Rattle.model.specs.Words.{aligned, extend}
+use Rattle.model.specs.Bytes.{number}
+use Rattle.model.specs.Bytes as bytes
+use Rattle.model.specs.Instruction.{onward, written}
+use Rattle.model.specs.Attempt.{Tried, tried, Width, size}
 use Rattle.model.specs.declared.Pcs.{Pcs}
 use Rattle.model.specs.declared.Access.{Access}
 use Rattle.model.specs.declared.Access.the-variants as says
@@ -46,3 +50,19 @@ after gpr bytes va done Misaligned = tried (Stopped (stop.Misaligned va)) gpr by
 after gpr bytes va done Illegal = tried (Stopped (stop.IllegalMemory va)) gpr bytes
 after gpr bytes va done Fault = tried (Missing va) gpr bytes
 after gpr bytes va done (At i) = done i
+
+-- ---- a load and a store of so many bytes, whose access came to r
+-- its place, if there is one, ends within n bytes
+abbrev pub Ends : Width → ℕ → Reached → Type 0
+Ends width n r = (i : ℕ) → r ≡ At i → i + size width ≤ n
+
+-- "lb and lh sign extended"
+abbrev pub read : Width → Bool → List ℕ → ℕ → ℕ
+read width signed memory i = if signed then extend (8 * size width) (number (size width) memory i) else number (size width) memory i
+
+unfoldable pub load : Width → Bool → ℕ → ℕ → Pcs → List ℕ → List ℕ → Reached → Tried
+load width signed rd va p gpr memory r =
+    after gpr memory va (λ i. tried (Done (onwardOf p)) (written gpr rd (read width signed memory i)) memory) r
+
+unfoldable pub store : Width → ℕ → ℕ → Pcs → List ℕ → List ℕ → Reached → Tried
+store width va v p gpr memory r = after gpr memory va (λ i. tried (Wrote (onwardOf p) i) gpr (bytes.store (size width) memory i v)) r

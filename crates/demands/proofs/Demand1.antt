@@ -1,53 +1,42 @@
 -- Demand 1: each call's tests decide as its rows say (`exactly-when`), and its definition leaves all as it was where it refuses
 -- (`changes-nothing`).
 use mathlib.Core.Path.{refl}
-use mathlib.Core.Bool.{Bool, true, false, _&&_}
+use mathlib.Core.Bool.{Bool, true, false}
 use mathlib.Core.List.{List, [], _∷_}
 use Prim.Native.Nat.{ℕ}
 use native.Mathlib.Omega.{arith}
-use lib.Dec.{leb}
 use lib.ListN.{length}
 use Rattle.model.specs.State.{Memory, State}
 use Rattle.model.specs.Sound.{fits, sound}
 use Rattle.model.specs.Answers.{verdictNumbers}
 use Rattle.model.specs.Calls.{machineVerdict, runVerdict, runBy, runCall, permitted, hostVerdict, readBy, readCall, writeBy, writeCall, viewable, viewVerdict, viewBy, viewCall, replyVerdict, replyBy, replyCall}
-use Rattle.model.specs.Image.{ptlOf, framesOf, known, wellFormed, imageVerdict, imageBy, imageCall, room, loadVerdict, loadBy, loadCall}
+use Rattle.model.specs.Image.{ptlOf, framesOf, imageVerdict, imageBy, imageCall, room, loadVerdict, loadBy, loadCall}
 use Rattle.model.specs.declared.Machine.{Machine}
 use Rattle.model.specs.declared.VirtualPage.{VirtualPage}
-use Rattle.model.specs.declared.Refusal.the-variants.{Bound, Unsound, Rights, TooMuch, Edition, Format, Room}
+use Rattle.model.specs.declared.Refusal.the-variants.{Rights, Room}
 use Rattle.model.specs.declared.Verdict.{Verdict}
 use Rattle.model.specs.declared.Verdict.the-variants.{Granted}
 use Rattle.laws.specs.Good.{Good}
-use Rattle.laws.specs.Formed.{Formed}
 use Rattle.demands.specs.Refusals.{Row, _when_, _unless_, Decided}
-use Rattle.demands.specs.Conditions.{Fits, Denied, SomeDenied, RunTooLong, TransferTooLong, Register, UnknownImage, MemoryFits}
+use Rattle.demands.specs.Conditions.{Fits, Denied, SomeDenied, RunTooLong, TransferTooLong, MemoryFits}
 use Rattle.demands.specs.Demand1.{machineRows, imageRows, transferRows, Whole, ExactlyWhen, refusedRun, refusedRead, refusedWrite, refusedView, refusedReply, refusedImage, refusedLoading, ChangesNothing, EmptyTransfer, Demand1}
-use Rattle.demands.proofs.Decide.{First, first-unless, last-unless, Answering, decides, unchanged}
-use Rattle.demands.proofs.Told.{fits-told, sound-told, some-denied-told, view-told, too-long-told, register-told, unknown-told, rule-told, room-told}
+use Rattle.demands.proofs.Decide.{First, last-unless, Answering, decides, unchanged}
+use Rattle.demands.proofs.Told.{fits-told, sound-told, some-denied-told, view-told, room-told}
+use Rattle.demands.proofs.Rows.{machine-first, run-first, transfer-first, none-denied, reply-first, image-first}
 
--- ---- the tests that calls share
-machine-first : (p : State) (v : Verdict) (own : List Row) → Whole p → First (verdictNumbers v .refused) own
+-- ---- the tests of a machine, and of a transfer
+rows-first : (p : State) (v : Verdict) (own : List Row) → Whole p → First (verdictNumbers v .refused) own
     → First (verdictNumbers (machineVerdict p v) .refused) (machineRows p own)
 unfolding machineVerdict
-machine-first p v own len f =
-    first-unless (fits (p .machine .shape) (p .memory)) Bound _ (1 unless Fits p) (2 unless Good p ∷ own) refl (fits-told p)
-    (λ q. first-unless (sound (p .machine) (p .memory)) Unsound v (2 unless Good p) own refl (sound-told p len q) (λ s. f))
+rows-first p v own len =
+    machine-first (fits (p .machine .shape) (p .memory)) (sound (p .machine) (p .memory)) (Fits p) (Good p) v own (fits-told p) (sound-told p len)
 
-transfer-first : (writing : Bool) (p : State) (va n : ℕ) → Whole p
+host-first : (writing : Bool) (p : State) (va n : ℕ) → Whole p
     → First (verdictNumbers (hostVerdict writing p va n) .refused) (transferRows writing p va n)
 unfolding hostVerdict
-transfer-first writing p va n len =
-    let third : Row = 3 when SomeDenied writing p va n in
-    machine-first p _ (4 when TransferTooLong n ∷ third ∷ []) len
-    (first-unless (leb n 256) TooMuch _ (4 when TransferTooLong n) (third ∷ []) refl (too-long-told 256 n (TransferTooLong n) (λ h. omega (arith, h)) (λ h. omega (arith, h)))
-    (λ q. last-unless (permitted writing (p .machine .shape) (p .memory .main) va n) Rights third refl (some-denied-told writing p va n)))
-
-image-first : (l : List ℕ) (v : Verdict) (own : List Row) → First (verdictNumbers v .refused) own
-    → First (verdictNumbers (imageVerdict l v) .refused) (imageRows l own)
-unfolding imageVerdict
-image-first l v own f =
-    first-unless (known l) Edition _ (5 when UnknownImage l) (6 unless Formed l ∷ own) refl (unknown-told l)
-    (λ q. first-unless (wellFormed l) Format v (6 unless Formed l) own refl (rule-told l) (λ s. f))
+host-first writing p va n len =
+    rows-first p _ (4 when TransferTooLong n ∷ 3 when SomeDenied writing p va n ∷ []) len
+    (transfer-first (permitted writing (p .machine .shape) (p .memory .main) va n) n (SomeDenied writing p va n) (some-denied-told writing p va n))
 
 -- ---- the outcome that each call makes of its verdict
 run-answers : (p : State) (n : ℕ) → Answering (λ o. o .numbers .verdict) (refusedRun p) (λ v. runBy v p n)
@@ -77,15 +66,14 @@ run-exactly : (p : State) (n : ℕ) → Whole p
 unfolding runCall runVerdict
 run-exactly p n len =
     decides (run-answers p n) (runVerdict p n) _ (omega arith)
-    (machine-first p _ (4 when RunTooLong n ∷ []) len
-    (last-unless (leb n 1000000) TooMuch (4 when RunTooLong n) refl (too-long-told 1000000 n (RunTooLong n) (λ h. omega (arith, h)) (λ h. omega (arith, h)))))
+    (rows-first p _ (4 when RunTooLong n ∷ []) len (run-first n))
 
 view-exactly : (p : State) (x : VirtualPage) → Whole p
     → Decided (viewCall p x .verdict .refused) (machineRows p (3 when Denied false p x ∷ []))
 unfolding viewCall viewVerdict
 view-exactly p x len =
     decides (view-answers p x) (viewVerdict p x) _ (omega arith)
-    (machine-first p _ (3 when Denied false p x ∷ []) len
+    (rows-first p _ (3 when Denied false p x ∷ []) len
     (last-unless (viewable (p .machine .shape) (p .memory .main) x) Rights (3 when Denied false p x) refl (view-told p x)))
 
 loading-exactly : (l : List ℕ) (m : Memory) → Decided (loadCall l m .verdict .refused) (imageRows l (7 unless MemoryFits l m ∷ []))
@@ -96,17 +84,15 @@ loading-exactly l m =
     (last-unless (room (framesOf l) (ptlOf l) (length (m .main)) (length (m .swap))) Room (7 unless MemoryFits l m) refl (room-told l m)))
 
 exactly-when : ExactlyWhen
-unfolding readCall writeCall replyCall replyVerdict imageCall
+unfolding readCall writeCall replyCall imageCall
 exactly-when = record {
   run = run-exactly;
   read = λ p va buffer len.
-      decides (read-answers p va buffer) (hostVerdict false p va (length buffer)) _ (omega arith) (transfer-first false p va (length buffer) len);
+      decides (read-answers p va buffer) (hostVerdict false p va (length buffer)) _ (omega arith) (host-first false p va (length buffer) len);
   write = λ p va bytes len.
-      decides (write-answers p va bytes) (hostVerdict true p va (length bytes)) _ (omega arith) (transfer-first true p va (length bytes) len);
+      decides (write-answers p va bytes) (hostVerdict true p va (length bytes)) _ (omega arith) (host-first true p va (length bytes) len);
   view = view-exactly;
-  reply = λ m i v.
-      decides (reply-answers m i v) (replyVerdict i) _ (omega arith)
-      (last-unless (leb 1 i && leb i 31) TooMuch (4 unless Register i) refl (register-told i));
+  reply = λ m i v. decides (reply-answers m i v) (replyVerdict i) _ (omega arith) (reply-first i);
   image = λ l. decides (image-answers l) (imageVerdict l Granted) _ (omega arith) (image-first l Granted [] refl);
   loading = loading-exactly;
 }
@@ -124,14 +110,10 @@ changes-nothing = record {
   loading = λ l m. unchanged (load-answers l m) (loadVerdict l m);
 }
 
--- ---- a transfer of no byte has none in a page that is denied
-none-denied : (writing : Bool) (p : State) (va : ℕ) → ¬ SomeDenied writing p va 0
-none-denied writing p va d = omega (arith, d .1)
-
 empty-transfer : EmptyTransfer
 empty-transfer = record {
-  read = λ p va len e. none-denied false p va (exactly-when .read p va [] len .exactly .1 .1 .1 .0 .0 e .1);
-  write = λ p va len e. none-denied true p va (exactly-when .write p va [] len .exactly .1 .1 .1 .0 .0 e .1);
+  read = λ p va len e. none-denied (exactly-when .read p va [] len .exactly .1 .1 .1 .0 .0 e .1);
+  write = λ p va len e. none-denied (exactly-when .write p va [] len .exactly .1 .1 .1 .0 .0 e .1);
 }
 
 pub demand-1 : Demand1

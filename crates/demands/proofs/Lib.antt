@@ -1,6 +1,7 @@
--- The theorems; Summary ends in all three demands.
+-- The theorems; Summary ends in all three demands, with the plain engine's.
 pub mod Decide
 pub mod Told
+pub mod Rows
 pub mod Demand1
 pub mod FlatRun
 pub mod Demand2
@@ -13,4 +14,9 @@ pub mod OrderLength
 pub mod Stories
 pub mod Demand3
 pub mod Each
+pub mod PlainTold
+pub mod Plain1
+pub mod Stands
+pub mod Says
+pub mod Same
 pub mod Summary

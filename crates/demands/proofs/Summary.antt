@@ -1,4 +1,5 @@
--- The three demands hold: of every sound machine, of every fresh one, and of every image that loading accepts (`summary`).
+-- The three demands hold: of every sound machine, of every fresh one, and of every image that loading accepts; and the plain engine gives
+-- what the paged machine gives (`summary`).
 use Rattle.laws.proofs.Calls.{series-good}
 use Rattle.demands.specs.Summary.{start, later, EveryImage, Summary}
 use Rattle.demands.proofs.Demand1.{demand-1}
@@ -7,6 +8,8 @@ use Rattle.demands.proofs.Demand3.{fresh, demand-3}
 use Rattle.demands.proofs.Loaded.{loaded}
 use Rattle.demands.proofs.Least.{every-least}
 use Rattle.demands.proofs.Each.{each-load, never-victim, each-instruction, each-run, each-spare}
+use Rattle.demands.proofs.Plain1.{plain-1}
+use Rattle.demands.proofs.Same.{every-same}
 
 every-image : EveryImage
 every-image l m e ss =
@@ -31,4 +34,6 @@ summary = record {
   loads = each-load;
   last = never-victim;
   spares = each-spare;
+  plain = plain-1;
+  same = every-same;
 }

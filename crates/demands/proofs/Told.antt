@@ -1,19 +1,19 @@
 -- Each test of a call tells its row of the table of refusals.
-use mathlib.Core.Path.{_≡_, refl, sym, _∙_}
-use mathlib.Core.Logic.{inl, inr}
+use mathlib.Core.Path.{_≡_, refl}
+use mathlib.Core.Logic.{_⊎_, inl, inr}
 use mathlib.Core.Bool.{Bool, true, false, _&&_}
 use mathlib.Core.List.{List}
-use Prim.Native.Nat.{ℕ, _+_, _<_}
+use Prim.Native.Nat.{ℕ, _+_, _<_, _≤_}
 use native.Mathlib.Omega.{arith}
 use lib.Dec.{eqb, leb, ltb}
 use lib.ListN.{length}
 use borrow.Author.Tests.{leb-true, leb-false, ltb-true, ltb-false, eqb-true, eqb-false, le-leb}
-use Rattle.model.specs.Words.{field}
+use Rattle.model.specs.Choice.{everyBelow}
 use Rattle.model.specs.Pages.{pageOf}
 use Rattle.model.specs.Table.{entry}
 use Rattle.model.specs.State.{Memory, State}
 use Rattle.model.specs.Sound.{fits, sound}
-use Rattle.model.specs.Translate.{has, translate, legal}
+use Rattle.model.specs.Translate.{has}
 use Rattle.model.specs.Calls.{permitted, viewable}
 use Rattle.model.specs.Image.{trailer, ptlOf, framesOf, known, wellFormed, room}
 use Rattle.model.specs.declared.VirtualPage.{VirtualPage}
@@ -36,49 +36,53 @@ pub sound-told : (p : State) → length (p .machine .book .held) ≡ 32 → fits
 sound-told p len f = tells-unless (good-of p len f) (λ g. sound-of p g .1)
 
 -- ---- 3
--- the test of the right, against its bit
-has-right : (writing : Bool) (e : ℕ) → has writing e ≡ true → ¬ (right writing e ≡ 0)
-has-right true e h z = omega (arith, eqb-true (field 1 1 e) 1 h, z)
-has-right false e h z = omega (arith, eqb-true (field 2 1 e) 1 h, z)
-
-lacks-right : (writing : Bool) (e : ℕ) → has writing e ≡ false → right writing e ≡ 0
-lacks-right true e h = omega (arith, eqb-false (field 1 1 e) 1 h)
-lacks-right false e h = omega (arith, eqb-false (field 2 1 e) 1 h)
-
--- page x is in the table and has the right
-abbrev grants : Bool → State → VirtualPage → Bool
-grants writing p x = ltb (x .0) (p .machine .shape .ptl) && has writing (entry (p .machine .shape) (p .memory .main) x)
-
-denied-told : (writing : Bool) (p : State) (x : VirtualPage) → Tells (grants writing p x) (3 when Denied writing p x)
-denied-told writing p x = record { fails = fails; passes = passes }
+-- page x is one of n, and its right is a bit
+pub page-told : (x n bit : ℕ) → bit < 2 → Tells (ltb x n && eqb bit 1) (3 when ((n ≤ x) ⊎ (bit ≡ 0)))
+page-told x n bit small = record { fails = fails; passes = passes }
   where
-    fails : grants writing p x ≡ false → Denied writing p x
-    fails q = pick (ltb (x .0) (p .machine .shape .ptl)) refl
+    fails : (ltb x n && eqb bit 1) ≡ false → (n ≤ x) ⊎ (bit ≡ 0)
+    fails q = pick (ltb x n) refl
       where
-        pick : (b : Bool) → ltb (x .0) (p .machine .shape .ptl) ≡ b → Denied writing p x
-        pick true t = inr (lacks-right writing _ (rw t at q))
+        pick : (b : Bool) → ltb x n ≡ b → (n ≤ x) ⊎ (bit ≡ 0)
+        pick true t = inr (omega (arith, eqb-false bit 1 (rw t at q), small))
         pick false t = inl (ltb-false _ _ t)
 
-    passes : grants writing p x ≡ true → ¬ Denied writing p x
-    passes q (inl out) = omega (arith, ltb-true (x .0) (p .machine .shape .ptl) (and-left _ _ q), out)
-    passes q (inr lacks) = has-right writing _ (and-right (ltb (x .0) (p .machine .shape .ptl)) _ q) lacks
+    passes : (ltb x n && eqb bit 1) ≡ true → ¬ ((n ≤ x) ⊎ (bit ≡ 0))
+    passes q (inl out) = omega (arith, ltb-true x n (and-left _ _ q), out)
+    passes q (inr lacks) = omega (arith, eqb-true bit 1 (and-right (ltb x n) _ q), lacks)
+
+-- a test of each of the n bytes of a transfer
+pub some-told : (n : ℕ) (test : ℕ → Bool) (denied : ℕ → Type 0) → ((i : ℕ) → Tells (test i) (3 when denied i))
+    → Tells (everyBelow n test) (3 when ((i : ℕ) × (i < n) × denied i))
+some-told n test denied t = record {
+  fails = λ q. let s : (i : ℕ) × (i < n) × (test i ≡ false) = some-fails n test q in (s .0, s .1, t (s .0) .fails (s .2));
+  passes = λ q d. t (d .0) .passes (every-at n test q (d .0) (d .1)) (d .2);
+}
+
+-- the right of an entry
+has-right : (writing : Bool) (e : ℕ) → has writing e ≡ eqb (right writing e) 1
+has-right true e = refl
+has-right false e = refl
+
+right-bit : (writing : Bool) (e : ℕ) → right writing e < 2
+right-bit true e = omega arith
+right-bit false e = omega arith
+
+module _ (writing : Bool) (p : State) where
+  denied-told : (x : VirtualPage)
+      → Tells (ltb (x .0) (p .machine .shape .ptl) && has writing (entry (p .machine .shape) (p .memory .main) x)) (3 when Denied writing p x)
+  denied-told x =
+      let e : ℕ = entry (p .machine .shape) (p .memory .main) x in
+      rw (has-right writing e) (page-told (x .0) (p .machine .shape .ptl) (right writing e) (right-bit writing e))
+
+  pub some-denied-told : (va n : ℕ) → Tells (permitted writing (p .machine .shape) (p .memory .main) va n) (3 when SomeDenied writing p va n)
+  unfolding permitted
+  some-denied-told va n =
+      some-told n _ _ (λ i. rw (legal-granted (p .machine .shape) (p .memory .main) writing (va + i)) (denied-told (pageOf (va + i))))
 
 pub view-told : (p : State) (x : VirtualPage) → Tells (viewable (p .machine .shape) (p .memory .main) x) (3 when Denied false p x)
 unfolding viewable
 view-told p x = denied-told false p x
-
-pub some-denied-told : (writing : Bool) (p : State) (va n : ℕ)
-    → Tells (permitted writing (p .machine .shape) (p .memory .main) va n) (3 when SomeDenied writing p va n)
-unfolding permitted
-some-denied-told writing p va n = record {
-  fails = λ q.
-      let t : (i : ℕ) × (i < n) × (legal (translate (p .machine .shape) (p .memory .main) writing (va + i)) ≡ false) = some-fails n _ q in
-      (t .0, t .1, told (t .0) .fails (sym (legal-granted (p .machine .shape) (p .memory .main) writing (va + t .0)) ∙ t .2));
-  passes = λ q d. told (d .0) .passes (sym (legal-granted (p .machine .shape) (p .memory .main) writing (va + d .0)) ∙ every-at n _ q (d .0) (d .1)) (d .2);
-}
-  where
-    told : (i : ℕ) → Tells (grants writing p (pageOf (va + i))) (3 when Denied writing p (pageOf (va + i)))
-    told i = denied-told writing p (pageOf (va + i))
 
 -- ---- 4
 -- what is too long is longer than `most`

@@ -1,7 +1,7 @@
 -- The three demands in one place: of every sound machine, of every fresh one, and of every image that loading accepts, with any series
 -- of steps after it: calls, and the host's changes of spare bits between them. And what holds of each instruction, each run, each load
--- and each such change. Each line stands for a statement of this crate; the theorem is `summary` of proofs/Summary. That no two outcomes
--- fit a promise is `unique` (crates/unique).
+-- and each such change; and of the plain engine, alone and beside the paged machine. Each line stands for a statement of this crate; the
+-- theorem is `summary` of proofs/Summary. That no two outcomes fit a promise is `unique` (crates/unique).
 use mathlib.Core.Path.{_≡_}
 use mathlib.Core.List.{List}
 use Prim.Native.Nat.{ℕ}
@@ -15,6 +15,8 @@ use Rattle.demands.specs.Demand3.{SeriesServed}
 use Rattle.demands.specs.Loaded.{LoadedFrom}
 use Rattle.demands.specs.Least.{EveryLeast}
 use Rattle.demands.specs.Each.{EachLoad, NeverVictim, EachInstruction, EachRun, EachSpare}
+use Rattle.demands.specs.Plain1.{PlainDemand1}
+use Rattle.demands.specs.Same.{EverySame}
 
 -- loading the image l into the memories m is not refused
 abbrev pub Taken : List ℕ → Memory → Type 0
@@ -74,3 +76,9 @@ pub record Summary : Type 0 where
   pub last : NeverVictim
   -- "a sound machine may hold any value there"
   pub spares : EachSpare
+  -- the plain engine of document 02's request 6: "3 and 4 as in document 01, 1 for ptl or a lent length, 2 only for GPR 0 not 0 or a
+  -- rights byte above 3"
+  pub plain : PlainDemand1
+  -- "From the same image and the same run, host and reply calls it must give the same refusals, stops, details, finished counts,
+  -- registers and guest bytes as the paged machine. .. Proved equal over any series of calls."
+  pub same : EverySame

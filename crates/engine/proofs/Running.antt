@@ -32,8 +32,9 @@ use Rattle.laws.specs.Demand2.{Right}
 use Rattle.laws.proofs.Size.{load-size}
 use Rattle.laws.proofs.Seats.{frame-most, frame-used}
 use Rattle.laws.proofs.Instruction.{attempts-right}
+use Rattle.cpu.specs.Finished.{Finished}
 use Rattle.paging.specs.Ready.{Ready, Stepped, afterLoad}
-use Rattle.engine.specs.Engine.{counted, course, Spot, spot, Walk, start, step, store, Finished, marksAfter, Walked}
+use Rattle.engine.specs.Engine.{counted, course, Spot, spot, Walk, start, step, store, marksAfter, Walked}
 use Rattle.engine.specs.declared.Ended.{Ended}
 use Rattle.engine.specs.declared.Leg.{Leg}
 

@@ -2,8 +2,7 @@
 -- stand for the marks, whatever they were before the leg.
 use mathlib.Core.Path.{_≡_, refl, sym, ap, ap₂, subst, _∙_}
 use mathlib.Core.Bool.{Bool, true, false, not}
-use mathlib.Core.Logic.{⊎-elim}
-use mathlib.Core.List.{List, [], _∷_}
+use mathlib.Core.List.{List}
 use Prim.Native.Nat.{ℕ, suc, _+_, _-_, _*_, _/_, _%_, _^_, _<_, _≤_}
 use native.Mathlib.Nat.{zero-div, one-mul, mod-eq-of-lt}
 use native.Mathlib.Omega.{arith}
@@ -11,59 +10,22 @@ use borrow.Author.Tests.{eqb-true, not-false}
 use lib.Dec.{eqb}
 use lib.Pow.{pow-lt}
 use lib.Bits.{bitOr}
-use types.Run.{OneOf}
-use denote.Enum.Declared.{tagOf}
-use Rattle.model.proofs.Outcome.{the-type}
-use Rattle.model.specs.Choice.{if_then_else_}
-use Rattle.model.specs.Words.{aligned}
-use Rattle.model.specs.Attempt.{Tried, tried, stopped, accessed, transfer, attempt}
+use Rattle.model.specs.Attempt.{tried, attempt}
 use Rattle.model.specs.Translate.{translate}
 use Rattle.model.specs.declared.Shape.{Shape}
 use Rattle.model.specs.declared.Pcs.{Pcs}
-use Rattle.model.specs.declared.Access.{Access}
-use Rattle.model.specs.declared.Access.the-variants.{Illegal, Fault, At}
-use Rattle.model.specs.declared.Stop.the-variants as stop
 use Rattle.model.specs.declared.Outcome.{Outcome}
-use Rattle.model.specs.declared.Outcome.the-variants.{Done, Wrote, Trapped, Missing, Stopped}
+use Rattle.model.specs.declared.Outcome.the-variants.{Done, Wrote}
 use Rattle.laws.specs.Good.{Safe}
 use Rattle.laws.proofs.Marks.{mark-joined, joined-none, joined-most}
-use Rattle.laws.proofs.Agree.{Finishes, done, wrote}
+use Rattle.laws.proofs.Agree.{Finishes}
 use Rattle.laws.proofs.Kept.{same-accesses, still-safe, unchanged, wrote-framed}
 use Rattle.cpu.specs.Found.{Found}
+use Rattle.cpu.specs.Finished.{Finished}
 use Rattle.cpu.specs.declared.code.CodePage.{CodePage}
 use Rattle.cpu.proofs.CodePages.{found-over}
-use Rattle.engine.specs.Engine.{spot, marksAfter, Walk, start, step, store, Finished, Walked}
-
--- ---- whether an outcome finishes its instruction, by its tag
-another : {n : ℕ} → n < 2 → OneOf (2 ∷ 3 ∷ 4 ∷ []) n → ⊥
-another h k = ⊎-elim (λ e. omega (arith, h, e)) (⊎-elim (λ e. omega (arith, h, e)) (λ e. omega (arith, h, e))) k
-
-pub unfinished : (o : Outcome) → OneOf (2 ∷ 3 ∷ 4 ∷ []) (tagOf the-type o) → ¬ Finished o
-unfinished (Done q) k = λ f. another (omega arith) k
-unfinished (Wrote q i) k = λ f. another (omega arith) k
-unfinished (Trapped q n) k = λ f. f
-unfinished (Missing va) k = λ f. f
-unfinished (Stopped s) k = λ f. f
-
-pub finished : (o : Outcome) → OneOf (0 ∷ 1 ∷ []) (tagOf the-type o) → Finished o
-finished (Done q) k = tt
-finished (Wrote q i) k = tt
-finished (Trapped q n) k = ⊎-elim (λ e. omega (arith, e)) (λ e. omega (arith, e)) k
-finished (Missing va) k = ⊎-elim (λ e. omega (arith, e)) (λ e. omega (arith, e)) k
-finished (Stopped s) k = ⊎-elim (λ e. omega (arith, e)) (λ e. omega (arith, e)) k
-
--- an attempt whose fetch goes to no place does not finish it
-pub no-fetch : (access : Bool → ℕ → Access) (gpr bytes : List ℕ) (p : Pcs) → ((i : ℕ) → access false (p .dpc) ≡ At i → ⊥)
-    → ¬ Finished (attempt access gpr bytes p .outcome)
-unfolding attempt transfer
-no-fetch access gpr bytes p none = pick _ (aligned 4 (p .dpc)) (access false (p .dpc)) none
-  where
-    pick : (on : ℕ → Tried) (b : Bool) (a : Access) → ((i : ℕ) → a ≡ At i → ⊥)
-        → ¬ Finished ((if b then accessed access gpr bytes p a (p .dpc) on else stopped access gpr bytes p (stop.Misaligned (p .dpc))) .outcome)
-    pick on false a n = λ f. f
-    pick on true Illegal n = λ f. f
-    pick on true Fault n = λ f. f
-    pick on true (At i) n = absurd (n i refl)
+use Rattle.cpu.proofs.Finishing.{finishes-finished}
+use Rattle.engine.specs.Engine.{spot, marksAfter, Walk, start, step, store, Walked}
 
 -- ---- a leg
 -- the test of the code page
@@ -152,7 +114,7 @@ module _ (s : Shape) (c : CodePage) (n : ℕ) (g₀ : List ℕ) (p₀ : Pcs) (m�
     pub left-with : ¬ Finished r → (marks : ℕ) → Walked s (spot g₀ p₀ m₀ marks) n (record { outcome = r; left = left; pcs = p; stored = stored }) g′ m′
     left-with not marks =
         let same : (attempt (translate s m) g m p .gpr ≡ g) × (attempt (translate s m) g m p .bytes ≡ m) =
-        unchanged s m (u .safe) g p (λ f. not (finishes (subst Finishes outcome-is f))) in
+        unchanged s m (u .safe) g p (λ f. not (finishes-finished (subst Finishes outcome-is f))) in
         let eg : g′ ≡ g = ap (λ z. z .gpr) is ∙ same .0 in
         let em : m′ ≡ m = ap (λ z. z .bytes) is ∙ same .1 in
         rw (eg, em) (record {
@@ -162,7 +124,3 @@ module _ (s : Shape) (c : CodePage) (n : ℕ) (g₀ : List ℕ) (p₀ : Pcs) (m�
           between = λ y. absurd (not y);
           ending = λ z. (more, ap₂ (λ x y. tried r x y) (sym eg) (sym em) ∙ is);
         })
-      where
-        finishes : {o : Outcome} → Finishes o → Finished o
-        finishes done = tt
-        finishes wrote = tt

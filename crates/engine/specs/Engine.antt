@@ -12,8 +12,8 @@ use Rattle.model.specs.Run.{Course, Counted}
 use Rattle.model.specs.declared.Shape.{Shape}
 use Rattle.model.specs.declared.FrameBook.{FrameBook}
 use Rattle.model.specs.declared.Pcs.{Pcs}
-use Rattle.model.specs.declared.Outcome.{Outcome}
-use Rattle.model.specs.declared.Outcome.the-variants.{Done, Wrote, Trapped, Missing, Stopped}
+use Rattle.model.specs.declared.Outcome.the-variants.{Done, Wrote}
+use Rattle.cpu.specs.Finished.{Finished}
 use Rattle.engine.specs.declared.Ended.{Ended}
 use Rattle.engine.specs.declared.Leg.{Leg}
 
@@ -49,14 +49,6 @@ pub data Walk (s : Shape) (from : Spot) : ℕ → Spot → Type 0 where
       → Walk s from (suc n) (spot gpr q main (a .marks))
   store : {n : ℕ} {a : Spot} → Walk s from n a → (q : Pcs) (i : ℕ) (gpr main : List ℕ) → tried (Wrote q i) gpr main ≡ tryAt s a
       → Walk s from (suc n) (spot gpr q main (withMark (a .marks) (frameIn s (mainPageOf i))))
-
--- an attempt that finishes its instruction, and does not end the run
-abbrev pub Finished : Outcome → Type 0
-Finished (Done q) = Unit {0}
-Finished (Wrote q i) = Unit {0}
-Finished (Trapped q n) = ⊥
-Finished (Missing va) = ⊥
-Finished (Stopped k) = ⊥
 
 -- the marks behind a leg that stored to these main pages, by those before it
 abbrev pub marksAfter : Shape → ℕ → ℕ → ℕ

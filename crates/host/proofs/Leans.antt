@@ -1,18 +1,17 @@
 -- What a call whose verdict v is `Granted` may lean on.
 use mathlib.Core.Path.{_≡_, sym, _∙_}
-use mathlib.Core.Bool.{Bool, _&&_}
+use mathlib.Core.Bool.{Bool}
 use Prim.Native.Nat.{ℕ, _≤_, _<_}
 use lib.Dec.{leb}
 use lib.ListN.{length}
 use borrow.Author.Tests.{leb-true}
 use Rattle.model.specs.State.{State}
-use Rattle.model.specs.Calls.{machineVerdict, runVerdict, hostVerdict, viewVerdict, replyVerdict}
+use Rattle.model.specs.Calls.{machineVerdict, runVerdict, hostVerdict, viewVerdict}
 use Rattle.model.specs.declared.VirtualPage.{VirtualPage}
 use Rattle.model.specs.declared.Refusal.the-variants.{TooMuch}
 use Rattle.model.specs.declared.Verdict.{Verdict}
 use Rattle.model.specs.declared.Verdict.the-variants.{Granted}
 use Rattle.laws.specs.Good.{Good, InTable}
-use Rattle.laws.proofs.Choice.{and-right}
 use Rattle.laws.proofs.Sound.{good-of}
 use Rattle.laws.proofs.Seated.{safe}
 use Rattle.laws.proofs.Granted.{unless-granted, machine-granted, run-limit, host-inside, view-inside}
@@ -42,7 +41,3 @@ module _ (p : State) (array : length (p .machine .book .held) ≡ 32) where
       → Reachable (p .machine .shape) (p .memory .main) (length (p .memory .swap)) × (x .0 < p .machine .shape .ptl)
   unfolding viewVerdict
   view-leans x v e h = (reachable _ (sym e ∙ h), view-inside p x (sym e ∙ h))
-
-pub reply-leans : (i : ℕ) (v : Verdict) → v ≡ replyVerdict i → v ≡ Granted → i ≤ 31
-unfolding replyVerdict
-reply-leans i v e h = leb-true i 31 (and-right (leb 1 i) _ (unless-granted (leb 1 i && leb i 31) TooMuch Granted (sym e ∙ h) .0))

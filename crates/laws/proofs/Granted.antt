@@ -1,6 +1,6 @@
 -- Verdicts. What is granted, or has the number 0, has passed each test that it asks for; a refusal comes whatever stands behind it. A good
 -- machine is refused neither by 1 nor by 2 (`machine-onward`), and its run within the limit reports the definition's (`run-reported`).
-use mathlib.Core.Path.{_≡_, refl, ap, _∙_}
+use mathlib.Core.Path.{_≡_, refl, sym, ap, _∙_}
 use mathlib.Core.Bool.{Bool, true, false, _&&_}
 use Prim.Native.Nat.{ℕ, _<_, _≤_}
 use native.Mathlib.Omega.{arith}
@@ -17,7 +17,7 @@ use Rattle.model.specs.declared.Refusal.the-variants.{Bound, Unsound, Rights, T
 use Rattle.model.specs.declared.Verdict.{Verdict}
 use Rattle.model.specs.declared.Verdict.the-variants.{Granted, Refused}
 use Rattle.laws.specs.Good.{Good, InTable}
-use Rattle.laws.proofs.Choice.{clash, and-left}
+use Rattle.laws.proofs.Choice.{clash, and-left, and-right}
 use Rattle.laws.proofs.Sound.{sound-of}
 use Rattle.laws.proofs.Host.{permitted-inside}
 
@@ -76,6 +76,11 @@ view-inside p x e =
 pub reply-register : (i : ℕ) → replyVerdict i ≡ Granted → 1 ≤ i
 unfolding replyVerdict
 reply-register i e = leb-true 1 i (and-left _ _ (unless-granted (leb 1 i && leb i 31) TooMuch Granted e .0))
+
+-- a reply whose verdict v is `Granted`
+pub reply-leans : (i : ℕ) (v : Verdict) → v ≡ replyVerdict i → v ≡ Granted → i ≤ 31
+unfolding replyVerdict
+reply-leans i v e h = leb-true i 31 (and-right (leb 1 i) _ (unless-granted (leb 1 i && leb i 31) TooMuch Granted (sym e ∙ h) .0))
 
 pub run-limit : (p : State) (n : ℕ) → runVerdict p n ≡ Granted → n ≤ 1000000
 unfolding runVerdict

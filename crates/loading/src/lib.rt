@@ -7,7 +7,7 @@ ghost use Rattle.model.specs.State.{memory};
 ghost use Rattle.model.specs.Promises.{LeastMainPagesPromise, LoadPromise};
 
 pub mod fresh;
-mod memory;
+pub mod memory;
 
 // How many main pages an image with these frames needs at least: the table's and the frames'. 0 where no image has them.
 pub fn least_main_pages(frames: u32) -> u32
@@ -31,7 +31,7 @@ pub fn load(file: &[u8], main: &mut [u8], swap: &mut [u8]) -> Handed
             }
             let machine = fresh::machine(main.len(), frames, ptl, start);
             memory::fill_main(image::rights(file), main);
-            memory::fill_swap(image::pages(file), ptl, swap);
+            memory::fill_pages(image::pages(file), ptl, swap);
             Handed {
                 machine: machine,
                 verdict: Verdict::Granted,

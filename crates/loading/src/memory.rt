@@ -44,15 +44,16 @@ pub(crate) fn fill_main(rights: &[u8], main: &mut [u8])
     put_entries(rights, main);
 }
 
-// "Swap gets the pages"; sbase is 0, so page x comes to swap page x.
-pub(crate) fn fill_swap(pages: &[u8], ptl: u32, swap: &mut [u8])
-    requires { ⌜ (length (now pages) ≡ 4096 * ptl) × (length (now swap) ≡ 4096 * ptl) ⌝ }
-    ensures { λ _. ⌜ now (swap .exit) ≡ now (pages .entry) ⌝ }
+// The image's pages, one behind the other: "Swap gets the pages"; sbase is 0, so page x comes to swap page x. The plain engine's memory
+// is filled so too.
+pub fn fill_pages(pages: &[u8], ptl: u32, memory: &mut [u8])
+    requires { ⌜ (length (now pages) ≡ 4096 * ptl) × (length (now memory) ≡ 4096 * ptl) ⌝ }
+    ensures { λ _. ⌜ now (memory .exit) ≡ now (pages .entry) ⌝ }
 {
     let n = ptl as usize;
     let mut x = 0;
     while x < n {
-        words::copy_page(pages, x, swap, x);
+        words::copy_page(pages, x, memory, x);
         x += 1;
     }
 }

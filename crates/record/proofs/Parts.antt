@@ -24,17 +24,17 @@ page-at l i = List·getD-map virtual l i 0
 pub number-at : (b : List VirtualPage) (i : ℕ) → getD (numbersOf b) i 0 ≡ getD b i (virtual 0) .0
 number-at b i = List·getD-map (λ (p : VirtualPage). p .0) b i (virtual 0)
 
-set-behind : (p r : List ℕ) (i v : ℕ) → set (p ++ r) (length p + i) v ≡ p ++ set r i v
+pub set-behind : (p r : List ℕ) (i v : ℕ) → set (p ++ r) (length p + i) v ≡ p ++ set r i v
 set-behind [] r i v = let z : 0 + i ≡ i = omega arith in ap (λ n. set r n v) z
 set-behind (x ∷ xs) r i v =
     let e : length (x ∷ xs) + i ≡ suc (length xs + i) = omega arith in
     ap (λ n. set (x ∷ (xs ++ r)) n v) e ∙ ap (λ z. x ∷ z) (set-behind xs r i v)
 
 -- ---- the four parts, one behind the other
-over-next : (p r s : List ℕ) (at : ℕ) → length p ≡ at → over at s (p ++ r) ≡ (p ++ s) ++ drop (length s) r
+pub over-next : (p r s : List ℕ) (at : ℕ) → length p ≡ at → over at s (p ++ r) ≡ (p ++ s) ++ drop (length s) r
 over-next p r s at e = rw (← e, take-append-seam, drop-append-add)
 
-part-next : (p r s : List ℕ) (at n : ℕ) → length p ≡ at → length s ≡ n → part at n ((p ++ s) ++ r) ≡ s
+pub part-next : (p r s : List ℕ) (at n : ℕ) → length p ≡ at → length s ≡ n → part at n ((p ++ s) ++ r) ≡ s
 part-next p r s at n e f = ap (λ z. part at n z) (append-assoc p s r) ∙ ap (λ z. take n z) (drop-at p (s ++ r) at e) ∙ take-at s r n f
 
 module _ (h b g t : List ℕ) (eh : length h ≡ heldAt) (eb : length b ≡ 32) (eg : length g ≡ 32) where

@@ -13,11 +13,11 @@ use Rattle.record.specs.Words.{heldAt, gprAt, dpcAt, recordLength, part,
 use Rattle.record.proofs.Parts.{length-part, part-held, part-gpr, tail-at, set-third}
 
 -- the n words from word i on, one by one
-abbrev each : ℕ → ℕ → List ℕ → List ℕ
+abbrev pub each : ℕ → ℕ → List ℕ → List ℕ
 each zero i l = []
 each (suc n) i l = getD l i 0 ∷ each n (suc i) l
 
-each-part : (n i : ℕ) (l : List ℕ) → i + n ≤ length l → each n i l ≡ part i n l
+pub each-part : (n i : ℕ) (l : List ℕ) → i + n ≤ length l → each n i l ≡ part i n l
 each-part zero i l h = refl
 each-part (suc n) i l h = rw (drop-cons l i 0 (omega arith)) (ap (λ z. getD l i 0 ∷ z) (each-part n (suc i) l (omega arith)))
 

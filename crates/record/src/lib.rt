@@ -43,7 +43,7 @@ const MARKS: usize = 74;
 pub const LENGTH: usize = 75;
 
 // The 32 words from word `at` on.
-fn part(from: &[u32], at: usize) -> [u32; 32]
+pub fn part(from: &[u32], at: usize) -> [u32; 32]
     requires { ⌜ at + 32 ≤ length (now from) ⌝ }
     ensures { λ r. ⌜ r ≡ words.part at 32 (now (from .entry)) ⌝ }
 {
@@ -57,7 +57,7 @@ fn part(from: &[u32], at: usize) -> [u32; 32]
 }
 
 // Puts `from` in the place of the words from word `at` on.
-fn put(to: &mut [u32], at: usize, from: &[u32])
+pub fn put(to: &mut [u32], at: usize, from: &[u32])
     requires { ⌜ at + length (now from) ≤ length (now to) ⌝ }
     ensures { λ _. ⌜ now (to .exit) ≡ over at (now (from .entry)) (now (to .entry)) ⌝ }
 {
@@ -171,7 +171,7 @@ pub fn set_register(to: &mut [u32], i: u32, v: u32)
 }
 
 // Sets word i to v, where there is one.
-fn set_at(to: &mut [u32], i: u32, v: u32)
+pub fn set_at(to: &mut [u32], i: u32, v: u32)
     ensures { λ _. ⌜ now (to .exit) ≡ set (now (to .entry)) i v ⌝ }
 {
     let at = i as usize;

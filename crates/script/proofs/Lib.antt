@@ -1,3 +1,5 @@
 -- The laws of the readers.
 pub mod Ways
 pub mod Within
+pub mod Spelled
+pub mod Asked

@@ -13,32 +13,28 @@ use Rattle.model.specs.Bytes.{same}
 use Rattle.text.specs.Reading.{isSpace, numberAt, hexEnd}
 use Rattle.text.specs.declared.reading.Part.{Part}
 use Rattle.text.specs.declared.reading.Part.the-variants.{Number, NotNumber}
-use Rattle.script.specs.Table.{callRow, changeRow, Named, named, firstFit, wordOf}
+use Rattle.script.specs.Table.{Named, named, firstFit, wordOf}
 use Rattle.script.specs.Parts.{fit, spacedNumber, behind, ended, pairs, hexBehind, numberAndHex, fitting, hexWithin, partsOf}
-use Rattle.script.specs.Grammar.{callLine, changeLine, byWord, lineOf}
-use Rattle.script.specs.declared.Call.{Call}
-use Rattle.script.specs.declared.Change.{Change}
+use Rattle.script.specs.Grammar.{byWord, lineOf}
 use Rattle.script.specs.declared.table.Row.{Row}
-use Rattle.script.specs.declared.Line.{Line}
 use Rattle.script.specs.declared.parts.Numbers.{Numbers}
 use Rattle.script.specs.declared.parts.Parts.{Parts}
 use Rattle.script.specs.declared.parts.Parts.the-variants.{Fit, Unfit}
 use Rattle.script.specs.declared.table.Word.{Word}
-use Rattle.script.specs.declared.table.Word.the-variants.{Calls, Changes, Unknown}
 
 -- ---- the table: the first word that fits
-module _ (w x : List ℕ) (n : Word) (ns : List Named) {b : Bool} (e : b ≡ same w x) where
-  pub here : b ≡ true → n ≡ firstFit w (named x n ∷ ns)
+module _ {A : Type 0} (none : A) (w x : List ℕ) (n : A) (ns : List (Named A)) {b : Bool} (e : b ≡ same w x) where
+  pub here : b ≡ true → n ≡ firstFit none w (named x n ∷ ns)
   unfolding firstFit
   here h = simp (sym e ∙ h)
 
-  pub further : b ≡ false → {r : Word} → r ≡ firstFit w ns → r ≡ firstFit w (named x n ∷ ns)
+  pub further : b ≡ false → {r : A} → r ≡ firstFit none w ns → r ≡ firstFit none w (named x n ∷ ns)
   unfolding firstFit
   further h f = simp (sym e ∙ h) f
 
-pub none-fits : (w : List ℕ) → Unknown ≡ firstFit w []
+pub none-fits : {A : Type 0} (none : A) (w : List ℕ) → none ≡ firstFit none w []
 unfolding firstFit
-none-fits w = refl
+none-fits none w = refl
 
 -- ---- what was read, p, decides what comes behind it
 pub behind-is : (k : ℕ → ℕ → Parts) {p q x : Part} → p ≡ x → p ≡ q → behind q k ≡ behind x k
@@ -101,16 +97,12 @@ pub word-end : (l : List ℕ) (n : ℕ) → n ≡ 0 + indexOf 32 (slice 0 (lengt
 unfolding slice
 word-end l n h = omega (arith, ap (indexOf 32) (take-length l))
 
+-- ---- what parts make of a line, by the row that was asked for
+pub by-parts : {L : Type 0} (line : Parts → L) (l : List ℕ) (at : ℕ) {row asked : Row} → row ≡ asked
+    → {p q : Parts} → p ≡ partsOf l at row → p ≡ q → line q ≡ line (partsOf l at asked)
+by-parts line l at r k f = ap line (sym f ∙ k ∙ ap (partsOf l at) r)
+
 -- ---- the line by its word w, which ends at a place
-module _ (l : List ℕ) (at : ℕ) (h : at ≡ indexOf 32 l) (w : Word) (e : w ≡ wordOf (take at l)) where
-  pub line-by : {x : Word} → w ≡ x → byWord x l at ≡ lineOf l
-  unfolding lineOf
-  line-by g = rw (← h) (ap (λ z. byWord z l at) (sym g ∙ e))
-
-  pub call-by : (c : Call) → w ≡ Calls c → {row : Row} → row ≡ callRow c → {p q : Parts} → p ≡ partsOf l at row → p ≡ q → callLine c q ≡ lineOf l
-  unfolding byWord
-  call-by c g r k f = ap (callLine c) (sym f ∙ k ∙ ap (partsOf l at) r) ∙ line-by g
-
-  pub change-by : (c : Change) → w ≡ Changes c → {row : Row} → row ≡ changeRow c → {p q : Parts} → p ≡ partsOf l at row → p ≡ q → changeLine c q ≡ lineOf l
-  unfolding byWord
-  change-by c g r k f = ap (changeLine c) (sym f ∙ k ∙ ap (partsOf l at) r) ∙ line-by g
+pub line-by : (l : List ℕ) (at : ℕ) → at ≡ indexOf 32 l → {w x : Word} → w ≡ wordOf (take at l) → w ≡ x → byWord x l at ≡ lineOf l
+unfolding lineOf
+line-by l at h e g = rw (← h) (ap (λ z. byWord z l at) (sym g ∙ e))

@@ -15,20 +15,18 @@ use Rattle.text.proofs.Bounds.{number-in, space-inside, hex-inside, PartIn}
 use Rattle.text.specs.declared.reading.Part.{Part}
 use Rattle.text.specs.declared.reading.Part.the-variants.{Number, NotNumber}
 use Rattle.script.specs.Table.{callRow, changeRow, wordOf}
-use Rattle.script.specs.Parts.{fit, spacedNumber, behind, ended, oneNumber, twoNumbers, pairs, hexBehind, numberAndHex, fitting, hexWithin, partsOf}
-use Rattle.script.specs.Grammar.{callLine, changeLine, byWord, lineOf}
+use Rattle.script.specs.Parts.{spacedNumber, behind, ended, oneNumber, twoNumbers, pairs, hexBehind, numberAndHex, fitting, hexWithin, partsOf, lineBy}
+use Rattle.script.specs.Grammar.{byWord, lineOf}
 use Rattle.script.specs.Keeping.{Keeps}
 use Rattle.script.specs.declared.parts.Numbers.{Numbers}
 use Rattle.script.specs.declared.parts.Parts.{Parts}
 use Rattle.script.specs.declared.parts.Parts.the-variants.{Fit, Unfit}
-use Rattle.script.specs.declared.Call.{Call}
-use Rattle.script.specs.declared.Change.{Change}
 use Rattle.script.specs.declared.table.Row.{Row}
 use Rattle.script.specs.declared.table.Row.the-variants.{Alone, One, Two, Hex, HexWithin}
 use Rattle.script.specs.declared.table.Word.{Word}
-use Rattle.script.specs.declared.table.Word.the-variants.{Calls as CallsWord, Changes as ChangesWord, Unknown}
+use Rattle.script.specs.declared.table.Word.the-variants.{Calls as CallsWord, Shows as ShowsWord, Changes as ChangesWord, Unknown}
 use Rattle.script.specs.declared.Line.{Line}
-use Rattle.script.specs.declared.Line.the-variants.{Calls, Changes, Bad}
+use Rattle.script.specs.declared.Line.the-variants.{Calls, Shows, Changes, Bad}
 
 -- a line of n bytes: the digits begin in it, the numbers keep to the row; a column that does not fit is at most two behind its end
 abbrev pub Within : ℕ → Row → Parts → Type 0
@@ -37,6 +35,7 @@ Within n row (Unfit column) = column ≤ n + 2
 
 abbrev pub LineIn : ℕ → Line → Type 0
 LineIn n (Calls c p) = (p .hex ≤ n) × Keeps (callRow c) p ((n - p .hex) / 2)
+LineIn n (Shows t) = Unit {0}
 LineIn n (Changes c p) = (p .hex ≤ n) × Keeps (changeRow c) p ((n - p .hex) / 2)
 LineIn n (Bad column) = column ≤ n + 2
 
@@ -46,7 +45,7 @@ unfolding indexAfter
 after-inside true k n h = omega arith
 after-inside false k n h = omega arith
 
-index-inside : (b : ℕ) (l : List ℕ) → indexOf b l ≤ length l
+pub index-inside : (b : ℕ) (l : List ℕ) → indexOf b l ≤ length l
 unfolding indexOf
 index-inside b [] = omega arith
 index-inside b (x ∷ l) = after-inside (eqb x b) (indexOf b l) (length l) (index-inside b l)
@@ -130,19 +129,23 @@ module _ (l : List ℕ) where
   pub hex-known : (at most : ℕ) → at ≤ length l → {p q : Parts} → p ≡ numberAndHex l at most → p ≡ q → Within (length l) (Hex most) q
   hex-known at most h e g = subst (Within (length l) (Hex most)) (sym e ∙ g) (hex-in at most h)
 
+  -- what holds of a line, by its parts
+  by-parts-in : {L : Type 0} (P : L → Type 0) (row : Row) {fits : Numbers → L} {bad : ℕ → L} (p : Parts) → Within (length l) row p
+      → ((n : Numbers) → Within (length l) row (Fit n) → P (fits n)) → ((column : ℕ) → column ≤ length l + 2 → P (bad column)) → P (lineBy fits bad p)
+  by-parts-in P row (Fit n) h f g = f n h
+  by-parts-in P row (Unfit column) h f g = g column h
+
+  pub by-row-in : {L : Type 0} (P : L → Type 0) (row : Row) (at : ℕ) → at ≤ length l → {fits : Numbers → L} {bad : ℕ → L}
+      → ((n : Numbers) → Within (length l) row (Fit n) → P (fits n)) → ((column : ℕ) → column ≤ length l + 2 → P (bad column))
+      → P (lineBy fits bad (partsOf l at row))
+  by-row-in P row at h f g = by-parts-in P row (partsOf l at row) (parts-in at row h) f g
+
   -- ---- the line
-  line-of-call : (c : Call) (p : Parts) → Within (length l) (callRow c) p → LineIn (length l) (callLine c p)
-  line-of-call c (Fit n) h = h
-  line-of-call c (Unfit column) h = h
-
-  line-of-change : (c : Change) (p : Parts) → Within (length l) (changeRow c) p → LineIn (length l) (changeLine c p)
-  line-of-change c (Fit n) h = h
-  line-of-change c (Unfit column) h = h
-
   by-word-in : (w : Word) (at : ℕ) → at ≤ length l → LineIn (length l) (byWord w l at)
   unfolding byWord
-  by-word-in (CallsWord c) at h = line-of-call c (partsOf l at (callRow c)) (parts-in at (callRow c) h)
-  by-word-in (ChangesWord c) at h = line-of-change c (partsOf l at (changeRow c)) (parts-in at (changeRow c) h)
+  by-word-in (CallsWord c) at h = by-row-in (LineIn (length l)) (callRow c) at h (λ _ k. k) (λ _ k. k)
+  by-word-in (ShowsWord t) at h = by-row-in (LineIn (length l)) Alone at h (λ _ _. tt) (λ _ k. k)
+  by-word-in (ChangesWord c) at h = by-row-in (LineIn (length l)) (changeRow c) at h (λ _ k. k) (λ _ k. k)
   by-word-in Unknown at h = omega arith
 
   line-in : LineIn (length l) (lineOf l)

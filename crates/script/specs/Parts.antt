@@ -65,3 +65,8 @@ partsOf l at (One most) = oneNumber l at most
 partsOf l at (Two most second) = twoNumbers l at most second
 partsOf l at (Hex most) = numberAndHex l at most
 partsOf l at (HexWithin size) = hexWithin l at size
+
+-- the line by its parts; a column that does not fit makes it bad
+abbrev pub lineBy : {L : Type 0} → (Numbers → L) → (ℕ → L) → Parts → L
+lineBy fits bad (Fit n) = fits n
+lineBy fits bad (Unfit column) = bad column

@@ -6,11 +6,14 @@ use Rattle.record.specs.Words.{lastWord}
 use Rattle.model.specs.Bytes.{same}
 use Rattle.script.specs.Vocabulary.{runWord, readWord, writeWord, viewWord, replyWord, registersWord, framesWord, sumWord, mainWord, swapWord, recordWord, lendWord, spareWord}
 use Rattle.script.specs.declared.Call.{Call}
-use Rattle.script.specs.declared.Call.the-variants.{Run, Read, Write, View, Reply, Registers, Frames, Sum}
+use Rattle.script.specs.declared.Call.the-variants.{Run, Read, Write, View, Reply, Registers}
+use Rattle.script.specs.declared.Show.the-variants.{Frames, Sum}
 use Rattle.script.specs.declared.Change.{Change}
 use Rattle.script.specs.declared.Change.the-variants.{Main, Swap, Record, Lend, Spare}
+use Rattle.script.specs.declared.table.Common.{Common}
+use Rattle.script.specs.declared.table.Common.the-variants.{Calls as CommonCalls, Other}
 use Rattle.script.specs.declared.table.Word.{Word}
-use Rattle.script.specs.declared.table.Word.the-variants.{Calls, Changes, Unknown}
+use Rattle.script.specs.declared.table.Word.the-variants.{Calls, Shows, Changes, Unknown}
 use Rattle.script.specs.declared.table.Row.{Row}
 use Rattle.script.specs.declared.table.Row.the-variants.{Alone, One, Two, Hex, HexWithin}
 
@@ -32,8 +35,6 @@ callRow Write = Hex any  -- `write VA HEX`
 callRow View = One any  -- `view PAGE`
 callRow Reply = Two any any  -- `reply I V`
 callRow Registers = Alone
-callRow Frames = Alone
-callRow Sum = Alone
 
 abbrev pub changeRow : Change → Row
 changeRow Main = HexWithin mainSize  -- `main AT HEX`
@@ -42,28 +43,40 @@ changeRow Record = Two lastWord any  -- `record I V`
 changeRow Lend = Two mainSize swapSize  -- `lend M S`
 changeRow Spare = Two 1023 511  -- `spare PAGE VALUE`
 
--- ---- what a word names: the first of the list that it is
-pub record Named : Type 0 where
+-- ---- what a word names: the first of a list that it is
+pub record Named (A : Type 0) : Type 0 where
   pub word : List ℕ
-  pub names : Word
+  pub names : A
 
-abbrev pub named : List ℕ → Word → Named
+abbrev pub named : {A : Type 0} → List ℕ → A → Named A
 named w n = record { word = w; names = n }
 
-unfoldable pub firstFit : List ℕ → List Named → Word
-firstFit w [] = Unknown
-firstFit w (n ∷ ns) = if same w (n .word) then n .names else firstFit w ns
+unfoldable pub firstFit : {A : Type 0} → A → List ℕ → List (Named A) → A
+firstFit none w [] = none
+firstFit none w (n ∷ ns) = if same w (n .word) then n .names else firstFit none w ns
 
-abbrev pub changes : List Named
-changes =
-    named mainWord (Changes Main) ∷ named swapWord (Changes Swap) ∷ named recordWord (Changes Record) ∷ named lendWord (Changes Lend)
-    ∷ named spareWord (Changes Spare) ∷ []
+-- the calls, which the programs have in common
+abbrev pub calls : List (Named Common)
+calls =
+    named runWord (CommonCalls Run) ∷ named readWord (CommonCalls Read) ∷ named writeWord (CommonCalls Write)
+    ∷ named viewWord (CommonCalls View) ∷ named replyWord (CommonCalls Reply) ∷ named registersWord (CommonCalls Registers) ∷ []
 
-abbrev pub words : List Named
-words =
-    named runWord (Calls Run) ∷ named readWord (Calls Read) ∷ named writeWord (Calls Write) ∷ named viewWord (Calls View)
-    ∷ named replyWord (Calls Reply) ∷ named registersWord (Calls Registers) ∷ named framesWord (Calls Frames) ∷ named sumWord (Calls Sum)
-    ∷ changes
+unfoldable pub callOf : List ℕ → Common
+callOf w = firstFit Other w calls
+
+-- a call, or a program's own word
+abbrev pub orOwn : {A : Type 0} → (Call → A) → Common → A → A
+orOwn calls (CommonCalls c) own = calls c
+orOwn calls Other own = own
+
+-- the words that `series` has behind them
+abbrev pub own : List (Named Word)
+own =
+    named framesWord (Shows Frames) ∷ named sumWord (Shows Sum) ∷ named mainWord (Changes Main) ∷ named swapWord (Changes Swap)
+    ∷ named recordWord (Changes Record) ∷ named lendWord (Changes Lend) ∷ named spareWord (Changes Spare) ∷ []
+
+abbrev pub ownOf : List ℕ → Word
+ownOf w = firstFit Unknown w own
 
 unfoldable pub wordOf : List ℕ → Word
-wordOf w = firstFit w words
+wordOf w = orOwn Calls (callOf w) (ownOf w)

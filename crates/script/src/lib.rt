@@ -6,9 +6,10 @@ pub mod table;
 
 use parts::Numbers;
 use parts::Parts;
+use table::Row;
 use table::Word;
 
-// The calls meet the lent bytes.
+// The calls, which every program has, meet the lent bytes.
 pub enum Call {
     Run,
     Read,
@@ -16,11 +17,15 @@ pub enum Call {
     View,
     Reply,
     Registers,
+}
+
+// What `series` shows beside them, of the frame book and of the lent bytes.
+pub enum Show {
     Frames,
     Sum,
 }
 
-// The changes meet what stands there: the whole buffers, the record, how much is lent, an entry's spare bits.
+// Its changes meet what stands there: the whole buffers, the record, how much is lent, an entry's spare bits.
 pub enum Change {
     Main,
     Swap,
@@ -29,9 +34,10 @@ pub enum Change {
     Spare,
 }
 
-// A call or a change with its numbers; or the column of the first byte that does not fit.
+// A line of `series`: a call or a change with its numbers; what is shown; or the column of the first byte that does not fit.
 pub enum Line {
     Calls(Call, Numbers),
+    Shows(Show),
     Changes(Change, Numbers),
     Bad(usize),
 }
@@ -43,6 +49,10 @@ pub fn parse(line: &[u8]) -> Line
     match table::word_of(&line[..at]) {
         Word::Calls(c) => match parts::parts_of(line, at, table::call_row(c)) {
             Parts::Fit(n) => Line::Calls(c, n),
+            Parts::Unfit(column) => Line::Bad(column),
+        },
+        Word::Shows(t) => match parts::parts_of(line, at, Row::Alone) {
+            Parts::Fit(_) => Line::Shows(t),
             Parts::Unfit(column) => Line::Bad(column),
         },
         Word::Changes(c) => match parts::parts_of(line, at, table::change_row(c)) {

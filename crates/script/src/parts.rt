@@ -118,7 +118,7 @@ fn hex_within(line: &[u8], at: usize, size: u32) -> Parts
     }
 }
 
-pub(crate) fn parts_of(line: &[u8], at: usize, row: Row) -> Parts
+pub fn parts_of(line: &[u8], at: usize, row: Row) -> Parts
     requires { ⌜ at ≤ length (now line) ⌝ }
     ensures { λ r. ⌜ r ≡ parts.partsOf (now (line .entry)) at row ⌝ }
 {

@@ -1,12 +1,21 @@
 // The table of the words: what each names, and which parts stand behind it.
 use crate::Call;
 use crate::Change;
+use crate::Show;
 use text::reading::same;
 ghost use mathlib.Core.Path.{_≡_};
 ghost use Rattle.script.specs.Table as table;
 
+// What a word names among the calls, which the programs have in common.
+pub enum Common {
+    Calls(Call),
+    Other,
+}
+
+// What a word of `series` names.
 pub enum Word {
     Calls(Call),
+    Shows(Show),
     Changes(Change),
     Unknown,
 }
@@ -21,7 +30,7 @@ pub enum Row {
     HexWithin(u32),
 }
 
-const ANY: u32 = 4294967295;
+pub const ANY: u32 = 4294967295;
 
 const MAIN: u32 = 262144;
 
@@ -30,7 +39,7 @@ const SWAP: u32 = 327680;
 // The last word of the record.
 const WORD: u32 = record::LENGTH as u32 - 1;
 
-pub(crate) fn call_row(call: Call) -> Row
+pub fn call_row(call: Call) -> Row
     ensures { λ r. ⌜ r ≡ table.callRow call ⌝ }
 {
     match call {
@@ -40,8 +49,6 @@ pub(crate) fn call_row(call: Call) -> Row
         Call::View => Row::One(ANY),
         Call::Reply => Row::Two(ANY, ANY),
         Call::Registers => Row::Alone,
-        Call::Frames => Row::Alone,
-        Call::Sum => Row::Alone,
     }
 }
 
@@ -57,9 +64,39 @@ pub(crate) fn change_row(change: Change) -> Row
     }
 }
 
-fn change_of(word: &[u8]) -> Word
-    ensures { λ r. ⌜ r ≡ table.firstFit (now (word .entry)) table.changes ⌝ }
+pub fn call_of(word: &[u8]) -> Common
+    ensures { λ r. ⌜ r ≡ table.callOf (now (word .entry)) ⌝ }
 {
+    if same(word, b"run") {
+        return Common::Calls(Call::Run);
+    }
+    if same(word, b"read") {
+        return Common::Calls(Call::Read);
+    }
+    if same(word, b"write") {
+        return Common::Calls(Call::Write);
+    }
+    if same(word, b"view") {
+        return Common::Calls(Call::View);
+    }
+    if same(word, b"reply") {
+        return Common::Calls(Call::Reply);
+    }
+    if same(word, b"registers") {
+        return Common::Calls(Call::Registers);
+    }
+    Common::Other
+}
+
+fn own_of(word: &[u8]) -> Word
+    ensures { λ r. ⌜ r ≡ table.ownOf (now (word .entry)) ⌝ }
+{
+    if same(word, b"frames") {
+        return Word::Shows(Show::Frames);
+    }
+    if same(word, b"sum") {
+        return Word::Shows(Show::Sum);
+    }
     if same(word, b"main") {
         return Word::Changes(Change::Main);
     }
@@ -81,29 +118,8 @@ fn change_of(word: &[u8]) -> Word
 pub(crate) fn word_of(word: &[u8]) -> Word
     ensures { λ r. ⌜ r ≡ table.wordOf (now (word .entry)) ⌝ }
 {
-    if same(word, b"run") {
-        return Word::Calls(Call::Run);
+    match call_of(word) {
+        Common::Calls(c) => Word::Calls(c),
+        Common::Other => own_of(word),
     }
-    if same(word, b"read") {
-        return Word::Calls(Call::Read);
-    }
-    if same(word, b"write") {
-        return Word::Calls(Call::Write);
-    }
-    if same(word, b"view") {
-        return Word::Calls(Call::View);
-    }
-    if same(word, b"reply") {
-        return Word::Calls(Call::Reply);
-    }
-    if same(word, b"registers") {
-        return Word::Calls(Call::Registers);
-    }
-    if same(word, b"frames") {
-        return Word::Calls(Call::Frames);
-    }
-    if same(word, b"sum") {
-        return Word::Calls(Call::Sum);
-    }
-    change_of(word)
 }

@@ -7,9 +7,9 @@ ghost use mathlib.Core.Path.{_≡_};
 ghost use Prim.Native.Nat.{_≤_};
 ghost use lib.ListN.{length};
 ghost use Rattle.io.specs.Counts.{Counts};
-ghost use Rattle.session.specs.Desk.{desk};
+ghost use Rattle.talk.specs.Script.{linesOf, talk};
+ghost use Rattle.session.specs.Desk.{desk, spoken};
 ghost use Rattle.session.specs.Ready.{Lent, Room};
-ghost use Rattle.session.specs.Script.{linesOf, talk};
 
 fn fail(message: &[u8]) {
     io::write_all(2, message);
@@ -19,7 +19,7 @@ fn fail(message: &[u8]) {
 fn go(first: Standing, main: &mut [u8], swap: &mut [u8], script: &[u8], out: &mut [u8]) -> Standing
     requires { ⌜ Room (now main) (now swap) (now out) × Lent first × (length (now script) ≤ 65536) ⌝ }
     ensures { λ r. ⌜ desk r (now (main .exit)) (now (swap .exit))
-        ≡ talk 0 (desk first (now (main .entry)) (now (swap .entry))) (linesOf (now (script .entry))) .desk ⌝ }
+        ≡ talk spoken 0 (desk first (now (main .entry)) (now (swap .entry))) (linesOf (now (script .entry))) .desk ⌝ }
 {
     let mut at = Stretch {
         standing: first,

@@ -3,33 +3,19 @@ use mathlib.Core.Path.{_≡_, refl, sym, ap, _∙_}
 use mathlib.Core.List.{List, [], _∷_}
 use Prim.Native.Nat.{ℕ}
 use Rattle.model.specs.State.{State}
-use Rattle.model.specs.Answers.{refusalNumber, VerdictNumbers, verdictNumbers, stopNumber, stopDetail, runNumbers}
-use Rattle.model.specs.Console.{refusedLine, orRefused}
+use Rattle.model.specs.Answers.{refusalNumber, stopNumber, stopDetail, runNumbers}
+use Rattle.model.specs.Console.{refusedLine}
 use Rattle.model.specs.Calls.{RunOutcome, runOutcome}
 use Rattle.model.specs.declared.Stop.{Stop}
 use Rattle.model.specs.declared.Refusal.{Refusal}
-use Rattle.model.specs.declared.Verdict.{Verdict}
-use Rattle.model.specs.declared.Verdict.the-variants.{Granted, Refused}
 use Rattle.model.specs.declared.RunAnswer.{RunAnswer}
 use Rattle.model.specs.declared.RunAnswer.the-variants.{Ran, NotRun}
-use Rattle.laws.proofs.Granted.{some-number}
+use Rattle.answerlines.specs.Lines.{numbersLine}
+use Rattle.answerlines.proofs.Refused.{refused-text}
 use Rattle.script.specs.Vocabulary.{runWord}
 use Rattle.script.specs.declared.parts.Numbers.{Numbers}
 use Rattle.script.specs.declared.Call.{Call}
-use Rattle.session.specs.Lines.{numbersLine}
 use Rattle.session.specs.Answers.{runText, Answer, answered, Says}
-
-refused-text : (r : Refusal) (line : List ℕ) → refusedLine (refusalNumber r) ≡ orRefused (verdictNumbers (Refused r)) line
-refused-text r line = simp (some-number r)
-
--- a verdict v, and the number n that is printed for it
-module _ (v : Verdict) (k : VerdictNumbers) (e : verdictNumbers v ≡ k) (line : List ℕ) where
-  pub verdict-refused : {r : Refusal} {n : ℕ} → v ≡ Refused r → n ≡ refusalNumber r → refusedLine n ≡ orRefused k line
-  verdict-refused {r} {n} g h =
-      ap refusedLine h ∙ refused-text r line ∙ ap (λ (j : VerdictNumbers). orRefused j line) (sym (ap verdictNumbers g) ∙ e)
-
-  pub verdict-granted : v ≡ Granted → line ≡ orRefused k line
-  verdict-granted g = ap (λ (j : VerdictNumbers). orRefused j line) (sym (ap verdictNumbers g) ∙ e)
 
 abbrev pub line : ℕ → ℕ → ℕ → ℕ → ℕ → List ℕ
 line stop detail finished loads copied = numbersLine runWord (stop ∷ detail ∷ finished ∷ loads ∷ copied ∷ [])

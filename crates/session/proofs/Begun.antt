@@ -23,9 +23,11 @@ use Rattle.laws.proofs.Granted.{refused, some-number}
 use Rattle.laws.proofs.Formed.{image-onward}
 use Rattle.image.proofs.Accepted.{read-image, read-refused}
 use Rattle.text.specs.Text.{Appended}
-use Rattle.session.specs.Desk.{Desk, desk, standing, lent, handedBack, Spoken, onward, toldOf, Tells}
+use Rattle.answerlines.specs.Lines.{loadedText}
+use Rattle.talk.specs.Script.{Spoken, onward}
+use Rattle.session.specs.Desk.{Desk, desk, standing, lent, handedBack, toldOf, Tells}
 use Rattle.session.specs.Ready.{Lent}
-use Rattle.session.specs.Series.{admits, turnedAway, loadedText, lentFor, begunBy, begun, Read, TurnedAway}
+use Rattle.session.specs.Series.{admits, turnedAway, lentFor, begunBy, begun, Read, TurnedAway}
 use Rattle.session.specs.declared.Told.{Told}
 
 -- ---- loading, by its answer
@@ -39,7 +41,7 @@ unfolding loadCall
 kept r l m e = kept-by (loadVerdict l m) r l m e
 
 -- code hands back a desk and says what stands at the beginning
-abbrev TellsBack : List ℕ → List ℕ → Told → Desk → Spoken → Type 0
+abbrev TellsBack : List ℕ → List ℕ → Told → Desk → Spoken Desk → Type 0
 TellsBack before after told d s = Tells before 0 after told (d .main) (d .swap) s
 
 module _ (file : List ℕ) (d : Desk) (v : Verdict) (p : State) (loaded : record { verdict = verdictNumbers v; state = p } ≡ loadCall file (lent d .memory))
@@ -90,7 +92,7 @@ lent-by : (loaded : Bool) (d : Desk) (p : State) (n : ℕ) (text : List ℕ) →
 lent-by true d p n text h = record { main-fits = h .main-fits; swap-fits = h .swap-fits }
 lent-by false d p n text h = record { main-fits = omega arith; swap-fits = omega arith }
 
-as-told : {before after : List ℕ} {told : Told} {main swap : List ℕ} {s : Spoken} → Tells before 0 after told main swap s → Lent (s .desk .standing) → Lent (told .standing)
+as-told : {before after : List ℕ} {told : Told} {main swap : List ℕ} {s : Spoken Desk} → Tells before 0 after told main swap s → Lent (s .desk .standing) → Lent (told .standing)
 as-told t h = subst Lent (sym (ap (λ (d : Desk). d .standing) (t .desk-is))) h
 
 -- ---- the ways to begin

@@ -8,18 +8,20 @@ use Rattle.model.specs.State.{State, state}
 use Rattle.model.specs.declared.Machine.{Machine}
 use Rattle.text.specs.Text.{Appended}
 use Rattle.text.specs.Reading.{bytesOf}
+use Rattle.answerlines.specs.Lines.{badText}
 use Rattle.script.specs.Grammar.{lineOf}
 use Rattle.script.specs.declared.parts.Numbers.{Numbers}
 use Rattle.script.specs.declared.Call.{Call}
+use Rattle.script.specs.declared.Show.{Show}
 use Rattle.script.specs.declared.Change.{Change}
 use Rattle.script.specs.declared.Line.{Line}
-use Rattle.script.specs.declared.Line.the-variants.{Calls, Changes, Bad}
-use Rattle.session.specs.Answers.{Says, answered}
-use Rattle.session.specs.Desk.{Desk, desk, standing, lent, handedBack, Spoken, changed, saidTo, changedBy, badText, badAt, spokenBy, spoken, toldOf, Tells}
+use Rattle.script.specs.declared.Line.the-variants.{Calls, Shows, Changes, Bad}
+use Rattle.script.proofs.Asked.{rest-is}
+use Rattle.session.specs.Answers.{Says, answered, showText}
+use Rattle.session.specs.Desk.{Desk, desk, standing, lent, handedBack, changed, saidTo, changedBy, spokenBy, spoken, toldOf, Tells}
 use Rattle.session.specs.Ready.{Lent}
 use Rattle.session.specs.declared.Standing.{Standing}
 use Rattle.session.specs.declared.Told.{Told}
-use Rattle.session.proofs.Asked.{rest-is}
 
 -- ---- what a change c leaves, which is known to be x
 pub changed-as : {c x : Change} → c ≡ x → (n : Numbers) (bytes : List ℕ) (d : Desk) {e : Desk} → e ≡ changed x n bytes d → e ≡ changed c n bytes d
@@ -42,6 +44,17 @@ module _ (number : ℕ) (l : List ℕ) where
         let d = desk at main swap in
         rw (h, ← (ap (λ (x : List ℕ). saidTo c n (bytesOf x) d) (rest-is l (n .hex)) ∙ by-line read g d)) (
           record { desk-is = ap (λ (p : State). handedBack d p) (says .state); text = says .text; goes = refl },
+          record { main-fits = fits .main-fits; swap-fits = fits .swap-fits },
+        )
+
+    -- what is shown; everything stays as it was
+    pub show-told : (x : Show) → z ≡ Shows x → {to : ℕ} → r ≡ toldOf (at .machine) (at .main) (at .swap) to true
+        → Appended before filled after to (showText x (lent (desk at main swap))) → Lent at
+        → Tells before filled after r main swap (spoken number l (desk at main swap)) × Lent (r .standing)
+    unfolding spokenBy
+    show-told x g h text fits =
+        rw (h, ← (by-line read g (desk at main swap))) (
+          record { desk-is = refl; text = text; goes = refl },
           record { main-fits = fits .main-fits; swap-fits = fits .swap-fits },
         )
 

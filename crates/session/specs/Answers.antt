@@ -12,12 +12,14 @@ use Rattle.model.specs.declared.Machine.{Machine}
 use Rattle.model.specs.declared.FrameBook.{FrameBook}
 use Rattle.record.specs.Words.{numbersOf}
 use Rattle.text.specs.Text.{Appended}
-use Rattle.script.specs.Vocabulary.{runWord, readWord, writeWord, viewWord, replyWord, registersWord, framesWord, sumWord}
+use Rattle.answerlines.specs.Lines.{numbersLine, sumsLine}
+use Rattle.answerlines.specs.Calls.{readLine, viewLine, writeLine, replyLine, registersLine}
+use Rattle.script.specs.Vocabulary.{runWord, framesWord, sumWord}
 use Rattle.script.specs.declared.parts.Numbers.{Numbers}
 use Rattle.script.specs.declared.Call.{Call}
-use Rattle.script.specs.declared.Call.the-variants.{Run, Read, Write, View, Reply, Registers, Frames, Sum}
-use Rattle.session.specs.Fnv.{fnv1a}
-use Rattle.session.specs.Lines.{wordLine, hexLine, numbersLine}
+use Rattle.script.specs.declared.Call.the-variants.{Run, Read, Write, View, Reply, Registers}
+use Rattle.script.specs.declared.Show.{Show}
+use Rattle.script.specs.declared.Show.the-variants.{Frames, Sum}
 
 -- ---- the lines
 -- `run STOP DETAIL FINISHED LOADS COPIED`
@@ -26,21 +28,21 @@ runText r = orRefused (r .verdict) (numbersLine runWord (r .stop ∷ r .detail �
 
 -- `read HEX`, `view HEX`
 abbrev pub readText : ReadOutcome → List ℕ
-readText o = orRefused (o .verdict) (hexLine (readWord ++ (32 ∷ [])) (o .buffer))
+readText o = readLine (o .verdict) (o .buffer)
 
 abbrev pub viewText : ViewOutcome → List ℕ
-viewText o = orRefused (o .verdict) (hexLine (viewWord ++ (32 ∷ [])) (o .part))
+viewText o = viewLine (o .verdict) (o .part)
 
 -- `write`, `reply`
 abbrev pub writeText : StateOutcome → List ℕ
-writeText o = orRefused (o .verdict) (wordLine writeWord)
+writeText o = writeLine (o .verdict)
 
 abbrev pub replyText : ReplyOutcome → List ℕ
-replyText o = orRefused (o .verdict) (wordLine replyWord)
+replyText o = replyLine (o .verdict)
 
 -- `registers DPC PC' GPR0 .. GPR31`
 abbrev pub registersText : Machine → List ℕ
-registersText m = numbersLine registersWord (m .pcs .dpc ∷ m .pcs .next ∷ m .gpr)
+registersText m = registersLine (m .pcs) (m .gpr)
 
 -- `frames USED HAND B0 .. B31 MARKS`
 abbrev pub framesText : FrameBook → List ℕ
@@ -48,7 +50,12 @@ framesText b = numbersLine framesWord ((b .used ∷ b .hand ∷ numbersOf (b .he
 
 -- `sum M S`
 abbrev pub sumText : List ℕ → List ℕ → List ℕ
-sumText main swap = numbersLine sumWord (fnv1a 2166136261 main ∷ fnv1a 2166136261 swap ∷ [])
+sumText main swap = sumsLine sumWord main swap
+
+-- what is shown, and nothing else done
+unfoldable pub showText : Show → State → List ℕ
+showText Frames p = framesText (p .machine .book)
+showText Sum p = sumText (p .memory .main) (p .memory .swap)
 
 -- ---- the calls: what is left of the machine and the lent bytes, and the line
 pub record Answer : Type 0 where
@@ -76,8 +83,6 @@ answered Write n bytes p = wrote (writeCall p (n .first) bytes)
 answered View n bytes p = told p (viewText (viewCall p (virtual (n .first))))
 answered Reply n bytes p = replied (replyCall (p .machine) (n .first) (n .second)) p
 answered Registers n bytes p = told p (registersText (p .machine))
-answered Frames n bytes p = told p (framesText (p .machine .book))
-answered Sum n bytes p = told p (sumText (p .memory .main) (p .memory .swap))
 
 -- the state p is what the call leaves, and its line stands in the buffer
 pub record Says (before : List ℕ) (at : ℕ) (after : List ℕ) (to : ℕ) (p : State) (a : Answer) : Type 0 where

@@ -1,7 +1,6 @@
 -- What stands between two lines, and what a line makes of it.
-use mathlib.Core.Bool.{Bool, true, false}
-use mathlib.Core.Path.{_≡_}
-use mathlib.Core.List.{List, [], _∷_, _++_}
+use mathlib.Core.Bool.{Bool}
+use mathlib.Core.List.{List, _++_}
 use Prim.Native.Nat.{ℕ, _+_}
 use lib.Dec.{leb}
 use lib.ListN.{take, drop}
@@ -14,18 +13,20 @@ use Rattle.model.specs.declared.Shape.{Shape}
 use Rattle.model.specs.declared.VirtualPage.{VirtualPage}
 use Rattle.model.specs.declared.Machine.{Machine}
 use Rattle.record.specs.Words.{withWord}
-use Rattle.text.specs.Text.{Appended}
 use Rattle.text.specs.Reading.{bytesOf}
+use Rattle.answerlines.specs.Lines.{wordLine, badText}
+use Rattle.talk.specs.Script as talk
+use Rattle.talk.specs.Script.{Spoken, onward, ending}
 use Rattle.script.specs.Grammar.{lineOf}
 use Rattle.script.specs.Vocabulary.{mainWord, swapWord, recordWord, lendWord, spareWord}
 use Rattle.script.specs.declared.parts.Numbers.{Numbers}
 use Rattle.script.specs.declared.Call.{Call}
+use Rattle.script.specs.declared.Show.{Show}
 use Rattle.script.specs.declared.Change.{Change}
 use Rattle.script.specs.declared.Change.the-variants.{Main, Swap, Record, Lend, Spare}
 use Rattle.script.specs.declared.Line.{Line}
-use Rattle.script.specs.declared.Line.the-variants.{Calls, Changes, Bad}
-use Rattle.session.specs.Lines.{badWord, wordLine, numbersLine}
-use Rattle.session.specs.Answers.{Answer, answered}
+use Rattle.script.specs.declared.Line.the-variants.{Calls, Shows, Changes, Bad}
+use Rattle.session.specs.Answers.{Answer, answered, showText}
 use Rattle.session.specs.declared.Standing.{Standing}
 use Rattle.session.specs.declared.Told.{Told}
 
@@ -54,16 +55,8 @@ handedBack d p =
     desk (standing (p .machine) (d .standing .main) (d .standing .swap))
     (p .memory .main ++ drop (d .standing .main) (d .main)) (p .memory .swap ++ drop (d .standing .swap) (d .swap))
 
--- ---- what a line leaves: the desk, its answer, and whether the script goes on
-pub record Spoken : Type 0 where
-  pub desk : Desk
-  pub text : List ℕ
-  pub goesOn : Bool
-
-abbrev pub onward : Desk → List ℕ → Spoken
-onward d text = record { desk = d; text = text; goesOn = true }
-
-abbrev pub called : Desk → Answer → Spoken
+-- ---- what a line leaves
+abbrev pub called : Desk → Answer → Spoken Desk
 called d a = onward (handedBack d (a .state)) (a .text)
 
 -- the changes: raw bytes into a buffer, a word of the record, how much is lent, the spare bits of an entry
@@ -87,24 +80,25 @@ changed Spare n bytes d =
     desk (d .standing) (setSpareWithin (d .standing .main) (d .standing .machine .shape) (d .main) (virtual (n .first)) (n .second)) (d .swap)
 
 -- the n-th line of the script; `bad LINE COLUMN`, "and the program ends"
-abbrev pub saidTo : Call → Numbers → List ℕ → Desk → Spoken
+abbrev pub saidTo : Call → Numbers → List ℕ → Desk → Spoken Desk
 saidTo c n bytes d = called d (answered c n bytes (lent d))
 
-abbrev pub changedBy : Change → Numbers → List ℕ → Desk → Spoken
+abbrev pub shownTo : Show → Desk → Spoken Desk
+shownTo x d = onward d (showText x (lent d))
+
+abbrev pub changedBy : Change → Numbers → List ℕ → Desk → Spoken Desk
 changedBy c n bytes d = onward (changed c n bytes d) (wordLine (changeWord c))
 
-abbrev pub badText : ℕ → ℕ → List ℕ
-badText number column = numbersLine badWord (number ∷ column ∷ [])
+abbrev pub badAt : ℕ → ℕ → Desk → Spoken Desk
+badAt number column d = ending d (badText number column)
 
-abbrev pub badAt : ℕ → ℕ → Desk → Spoken
-badAt number column d = record { desk = d; text = badText number column; goesOn = false }
-
-unfoldable pub spokenBy : Line → ℕ → List ℕ → Desk → Spoken
+unfoldable pub spokenBy : Line → ℕ → List ℕ → Desk → Spoken Desk
 spokenBy (Calls c n) number l d = saidTo c n (bytesOf (drop (n .hex) l)) d
+spokenBy (Shows x) number l d = shownTo x d
 spokenBy (Changes c n) number l d = changedBy c n (bytesOf (drop (n .hex) l)) d
 spokenBy (Bad column) number l d = badAt number column d
 
-unfoldable pub spoken : ℕ → List ℕ → Desk → Spoken
+unfoldable pub spoken : ℕ → List ℕ → Desk → Spoken Desk
 spoken number l d = spokenBy (lineOf l) number l d
 
 -- ---- what code hands back
@@ -112,7 +106,5 @@ abbrev pub toldOf : Machine → ℕ → ℕ → ℕ → Bool → Told
 toldOf m a s filled on = record { standing = standing m a s; filled = filled; «goes_on» = on }
 
 -- it says what a line leaves: the desk, the answer in the buffer, and whether the script goes on
-pub record Tells (before : List ℕ) (at : ℕ) (after : List ℕ) (r : Told) (main swap : List ℕ) (s : Spoken) : Type 0 where
-  pub desk-is : desk (r .standing) main swap ≡ s .desk
-  pub text : Appended before at after (r .filled) (s .text)
-  pub goes : r .«goes_on» ≡ s .goesOn
+abbrev pub Tells : List ℕ → ℕ → List ℕ → Told → List ℕ → List ℕ → Spoken Desk → Type 0
+Tells before at after r main swap s = talk.Tells before at after (r .filled) (r .«goes_on») (desk (r .standing) main swap) s

@@ -1,6 +1,4 @@
 -- What a session of `series` writes and leaves.
-pub mod Fnv
-pub mod Lines
 pub mod Answers
 pub mod Desk
 pub mod Ready

@@ -1,10 +1,10 @@
 -- The program `series`: what it writes for an image, a number of main pages and a script.
-use mathlib.Core.Bool.{true, false}
+use mathlib.Core.Bool.{true}
 use mathlib.Core.Path.{_≡_}
-use mathlib.Core.List.{List, [], _∷_, _++_}
-use Prim.Native.Nat.{ℕ, _*_, _≤_}
+use mathlib.Core.List.{List, _++_}
+use Prim.Native.Nat.{ℕ, _*_}
 use lib.Dec.{eqb, leb}
-use lib.ListN.{length, drop, replicate}
+use lib.ListN.{length, replicate}
 use Rattle.model.specs.Choice.{if_then_else_}
 use Rattle.model.specs.Answers.{refusalNumber}
 use Rattle.model.specs.Calls.{unless, StateOutcome}
@@ -13,9 +13,10 @@ use Rattle.model.specs.Console.{refusedLine}
 use Rattle.model.specs.declared.Refusal.the-variants.{Room}
 use Rattle.model.specs.declared.Verdict.{Verdict}
 use Rattle.model.specs.declared.Verdict.the-variants.{Granted, Refused}
-use Rattle.session.specs.Lines.{loadedWord, numbersLine}
-use Rattle.session.specs.Desk.{Desk, desk, standing, lent, handedBack, Spoken, onward, Tells}
-use Rattle.session.specs.Script.{linesOf, Talk, behind, talk}
+use Rattle.answerlines.specs.Lines.{loadedText}
+use Rattle.talk.specs.Script.{Spoken, onward, ending, Talk, talkAfter}
+use Rattle.talk.specs.Stretch.{point, joined, Stretches}
+use Rattle.session.specs.Desk.{Desk, desk, standing, lent, handedBack, spoken, Tells}
 use Rattle.session.specs.declared.Told.{Told}
 
 -- "A file longer than 263,256 bytes: `refused 7` by its length alone; MAIN_PAGES above 64: `refused 7` after 5 and 6."
@@ -24,14 +25,11 @@ admits file pages =
     if leb (length file) 263256 then imageVerdict file (unless (leb pages 64) Room Granted) else Refused Room
 
 -- `refused N`, and no line of the script is done
-abbrev pub turnedAway : ℕ → List ℕ → List ℕ → Spoken
-turnedAway n main swap = record { desk = desk (standing zeroMachine 0 0) main swap; text = refusedLine n; goesOn = false }
-
-abbrev pub loadedText : ℕ → ℕ → ℕ → List ℕ
-loadedText ptl start frames = numbersLine loadedWord (ptl ∷ start ∷ frames ∷ [])
+abbrev pub turnedAway : ℕ → List ℕ → List ℕ → Spoken Desk
+turnedAway n main swap = ending (desk (standing zeroMachine 0 0) main swap) (refusedLine n)
 
 -- `loaded PTL START FRAMES`, where the image is loaded into the lent bytes
-abbrev pub loadedInto : Desk → List ℕ → StateOutcome → Spoken
+abbrev pub loadedInto : Desk → List ℕ → StateOutcome → Spoken Desk
 loadedInto d file o =
     if eqb (o .verdict .refused) 0 then onward (handedBack d (o .state)) (loadedText (ptlOf file) (startOf file) (framesOf file))
     else turnedAway (o .verdict .refused) (d .main) (d .swap)
@@ -40,40 +38,26 @@ loadedInto d file o =
 abbrev pub lentFor : List ℕ → ℕ → List ℕ → List ℕ → Desk
 lentFor file pages main swap = desk (standing zeroMachine (4096 * pages) (4096 * ptlOf file)) main swap
 
-abbrev pub begunBy : Verdict → List ℕ → Desk → Spoken
+abbrev pub begunBy : Verdict → List ℕ → Desk → Spoken Desk
 begunBy Granted file d = loadedInto d file (loadCall file (lent d .memory))
 begunBy (Refused r) file d = turnedAway (refusalNumber r) (d .main) (d .swap)
 
-unfoldable pub begun : List ℕ → ℕ → List ℕ → List ℕ → Spoken
+unfoldable pub begun : List ℕ → ℕ → List ℕ → List ℕ → Spoken Desk
 begun file pages main swap = begunBy (admits file pages) file (lentFor file pages main swap)
 
 -- the whole text, and what stands at the end: both buffers are zeros at first, of 64 and of 80 pages
-abbrev pub talkAfter : Spoken → List ℕ → Talk
-talkAfter s script =
-    if s .goesOn then behind (s .text) (talk 0 (s .desk) (linesOf script)) else record { text = s .text; desk = s .desk }
+abbrev pub begunWith : List ℕ → ℕ → Spoken Desk
+begunWith file pages = begun file pages (replicate 262144 0) (replicate 327680 0)
 
-unfoldable pub seriesTalk : List ℕ → ℕ → List ℕ → Talk
-seriesTalk file pages script = talkAfter (begun file pages (replicate 262144 0) (replicate 327680 0)) script
+unfoldable pub seriesTalk : List ℕ → ℕ → List ℕ → Talk Desk
+seriesTalk file pages script = talkAfter spoken (begunWith file pages) script
 
--- ---- the same, piece by piece: behind the beginning each stretch as `Goes` has it, one after another to the script's end
-abbrev pub joined : List (List ℕ) → List ℕ
-joined [] = []
-joined (t ∷ ts) = t ++ joined ts
-
--- n lines are done and byte p of the script is next; the texts of the stretches, and what stands at the end
-unfoldable pub Stretches : List ℕ → ℕ → Desk → ℕ → List (List ℕ) → Desk → Type 0
-Stretches script n d p [] last = (length script ≤ p) × (d ≡ last)
-Stretches script n d p (t ∷ ts) last =
-    (n′ : ℕ) × (d′ : Desk) × (p′ : ℕ)
-    × (talk n d (linesOf (drop p script)) ≡ behind t (talk n′ d′ (linesOf (drop p′ script)))) × Stretches script n′ d′ p′ ts last
-
--- all that the program writes, and what it leaves, are the definition's
+-- the same, piece by piece: all that the program writes, and what it leaves, are the definition's
 abbrev pub WholeText : Type 0
 WholeText = (file : List ℕ) (pages : ℕ) (script : List ℕ) (ts : List (List ℕ)) (last : Desk)
-    → begun file pages (replicate 262144 0) (replicate 327680 0) .goesOn ≡ true
-    → Stretches script 0 (begun file pages (replicate 262144 0) (replicate 327680 0) .desk) 0 ts last
-    → seriesTalk file pages script
-    ≡ record { text = begun file pages (replicate 262144 0) (replicate 327680 0) .text ++ joined ts; desk = last }
+    → begunWith file pages .goesOn ≡ true
+    → Stretches spoken script (point 0 (begunWith file pages .desk) 0) ts last
+    → seriesTalk file pages script ≡ record { text = begunWith file pages .text ++ joined ts; desk = last }
 
 -- what the reader answered for the file
 pub record Read (file : List ℕ) (ptl start frames : ℕ) : Type 0 where

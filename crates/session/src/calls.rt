@@ -1,10 +1,10 @@
 // The calls of a script: each does its work on the lent bytes and puts its line into the buffer, from a place on.
-use crate::fnv::fnv1a;
-use crate::lines;
+use answerlines::numbers_line;
+use answerlines::registers_line;
+use answerlines::verdict_line;
 use answers::refusal_number;
 use model::Machine;
 use model::RunAnswer;
-use model::Verdict;
 use model::VirtualPage;
 use script::Call;
 use script::parts::Numbers;
@@ -16,31 +16,16 @@ ghost use lib.ListN.{length, replicate};
 ghost use Rattle.model.specs.State.{state};
 ghost use Rattle.model.specs.Pages.{virtual};
 ghost use Rattle.model.specs.Calls as calls;
-ghost use Rattle.model.specs.Answers.{verdictNumbers};
-ghost use Rattle.model.specs.Console.{orRefused};
 ghost use Rattle.text.specs.Text.{Appended};
 ghost use Rattle.text.specs.Reading.{bytesOf};
 ghost use Rattle.script.specs.Table.{callRow};
 ghost use Rattle.script.specs.Keeping.{Keeps};
-ghost use Rattle.session.specs.Lines.{hexLine};
 ghost use Rattle.session.specs.Answers as answers;
 
 // The record afterwards, and the place behind the line.
 pub(crate) struct Done {
     pub machine: Machine,
     pub filled: usize,
-}
-
-// What a call answers, or its refusal.
-fn verdict_line(out: &mut [u8], at: usize, v: Verdict, word: &[u8], bytes: &[u8]) -> usize
-    requires { ⌜ (at + 128 + 2 * length (now bytes) ≤ length (now out)) × (length (now word) ≤ 100) ⌝ }
-    ensures { λ r. ⌜ Appended (now (out .entry)) at (now (out .exit)) r
-        (orRefused (verdictNumbers v) (hexLine (now (word .entry)) (now (bytes .entry)))) ⌝ }
-{
-    match v {
-        Verdict::Refused(refusal) => refused_line(out, at, refusal_number(refusal)),
-        Verdict::Granted => lines::hex_line(out, at, word, bytes),
-    }
 }
 
 // `run N`
@@ -63,7 +48,7 @@ fn run(m: Machine, main: &mut [u8], swap: &mut [u8], limit: u32, out: &mut [u8],
             let number = answers::stop_number(stop);
             let why = [number, answers::stop_detail(stop)];
             let counts = [finished, loads, copied];
-            left(after, lines::numbers_line(out, at, b"run", &why, &counts))
+            left(after, numbers_line(out, at, b"run", &why, &counts))
         }
     }
 }
@@ -131,34 +116,9 @@ fn registers(m: Machine, out: &mut [u8], at: usize) -> Done
     requires { ⌜ at + 512 ≤ length (now out) ⌝ }
     ensures { λ r. ⌜ (r .machine ≡ m) × Appended (now (out .entry)) at (now (out .exit)) (r .filled) (answers.registersText m) ⌝ }
 {
-    let pcs = [m.pcs.dpc, m.pcs.next];
+    let pcs = m.pcs;
     let gpr = m.gpr;
-    left(m, lines::numbers_line(out, at, b"registers", &pcs, &gpr))
-}
-
-// `frames`
-fn frames(m: Machine, out: &mut [u8], at: usize) -> Done
-    requires { ⌜ at + 512 ≤ length (now out) ⌝ }
-    ensures { λ r. ⌜ (r .machine ≡ m) × Appended (now (out .entry)) at (now (out .exit)) (r .filled) (answers.framesText (m .book)) ⌝ }
-{
-    let first = [m.book.used, m.book.hand];
-    let held = m.book.held;
-    let numbers = record::numbers_of(held);
-    left(
-        m,
-        lines::frames_line(out, at, &first, &numbers, m.book.marks),
-    )
-}
-
-// `sum`, of the lent bytes
-fn sum(m: Machine, main: &[u8], swap: &[u8], out: &mut [u8], at: usize) -> Done
-    requires { ⌜ at + 128 ≤ length (now out) ⌝ }
-    ensures { λ r. ⌜ (r .machine ≡ m)
-        × Appended (now (out .entry)) at (now (out .exit)) (r .filled) (answers.sumText (now (main .entry)) (now (swap .entry))) ⌝ }
-{
-    let of_main = [fnv1a(main)];
-    let of_swap = [fnv1a(swap)];
-    left(m, lines::numbers_line(out, at, b"sum", &of_main, &of_swap))
+    left(m, registers_line(out, at, pcs, gpr))
 }
 
 fn left(m: Machine, filled: usize) -> Done
@@ -191,7 +151,5 @@ pub(crate) fn answer(
         Call::View => view(m, main, swap, n.first, out, at),
         Call::Reply => reply(m, n, out, at),
         Call::Registers => registers(m, out, at),
-        Call::Frames => frames(m, out, at),
-        Call::Sum => sum(m, main, swap, out, at),
     }
 }

@@ -1,11 +1,11 @@
 // A session of `series`: the image is loaded, then every line of the script is done in turn. What is said goes into a lent buffer, a
 // stretch at a time; the program writes it out.
 mod calls;
-mod fnv;
-mod lines;
+mod shows;
 mod spare;
 mod step;
 
+use answerlines::numbers_line;
 use answers::refusal_number;
 use model::ImageAnswer;
 use model::Machine;
@@ -80,7 +80,7 @@ fn load(
         Verdict::Granted => {
             let pages = [ptl];
             let numbers = [start, frames];
-            let filled = lines::numbers_line(out, 0, b"loaded", &pages, &numbers);
+            let filled = numbers_line(out, 0, b"loaded", &pages, &numbers);
             step::told(machine, a, s, filled, true)
         }
     }

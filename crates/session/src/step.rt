@@ -2,9 +2,10 @@
 use crate::Standing;
 use crate::Told;
 use crate::calls;
-use crate::lines::hex_line;
-use crate::lines::numbers_line;
+use crate::shows;
 use crate::spare::set_spare;
+use answerlines::hex_line;
+use answerlines::numbers_line;
 use model::Machine;
 use model::VirtualPage;
 use script::Change;
@@ -77,7 +78,7 @@ fn change(
     }
 }
 
-// A call meets the lent bytes; a change answers with its word, which the line begins with; `bad LINE COLUMN`, "and the program ends".
+// A call and what is shown meet the lent bytes; a change answers with its word, which the line begins with; `bad LINE COLUMN`, "and the program ends".
 pub(crate) fn step(
     at: Standing,
     main: &mut [u8],
@@ -101,6 +102,10 @@ pub(crate) fn step(
             let done = calls::answer(c, n, m, &mut main[..a], &mut swap[..s], digits, out, filled);
             let after = done.machine;
             told(after, a, s, done.filled, true)
+        }
+        Line::Shows(x) => {
+            let to = shows::show(x, m, &main[..a], &swap[..s], out, filled);
+            told(m, a, s, to, true)
         }
         Line::Changes(c, n) => {
             let hex = n.hex;

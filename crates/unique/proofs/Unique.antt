@@ -12,12 +12,18 @@ use Rattle.model.specs.declared.Verdict.{Verdict}
 use Rattle.model.specs.declared.RunResult.{RunResult}
 use Rattle.model.specs.declared.Handed.{Handed}
 use Rattle.laws.proofs.Numbers.{refusal-told, verdict-told, stop-told, run-told, image-told}
+use Rattle.plainmodel.specs.State.{PlainState, plainState}
+use Rattle.plainmodel.specs.Calls as plain
+use Rattle.plainmodel.specs.Load as plain-load
+use Rattle.plainmodel.specs.declared.PlainResult.{PlainResult}
+use Rattle.plainmodel.specs.declared.PlainHanded.{PlainHanded}
+use Rattle.plainlaws.proofs.Numbers.{plain-told}
 use Rattle.notation.specs.Calls.{AssembleOutcome, assembleOutcome, assembleCall, ListOutcome, listOutcome, listCall}
 use Rattle.grammar.proofs.Numbers.{assemble-told, list-told}
 use Rattle.image.specs.Format.{answerOf}
 use Rattle.image.specs.Hand.{KeepPromise}
 use Rattle.image.specs.declared.at_hand.Image.{Image}
-use Rattle.unique.specs.Unique.{NoTwo, NoTwoFilled, NoTwoLent, NoTwoParts, NumbersTell, MachineCalls, ImageCalls, MakersCalls, ByHand, Exported, ProgramCalls, Unique}
+use Rattle.unique.specs.Unique.{NoTwo, NoTwoFilled, NoTwoLent, NoTwoParts, NumbersTell, MachineCalls, ImageCalls, PlainCalls, MakersCalls, ByHand, Exported, PlainExported, ProgramCalls, Unique}
 use Rattle.text.specs.Text.{Appended}
 use Rattle.script.specs.Grammar.{lineOf}
 use Rattle.session.specs.Desk.{Desk}
@@ -59,6 +65,42 @@ reply-same : (o : ReplyOutcome) → NoTwo (λ (r : Handed). record { verdict = v
 reply-same o r r′ e e′ =
     let q = e ∙ sym e′ in handed-same r r′ (ap (λ (p : ReplyOutcome). p .verdict) q) (ap (λ (p : ReplyOutcome). p .machine) q)
 
+plain-handed-same : (r r′ : PlainHanded) → verdictNumbers (r .verdict) ≡ verdictNumbers (r′ .verdict) → r .plain ≡ r′ .plain → r ≡ r′
+plain-handed-same r r′ v m = ap₂ {C = PlainHanded} (λ x y. record { plain = x; verdict = y }) m (verdict-told (r .verdict) (r′ .verdict) v)
+
+plain-run-same : (p : PlainState) (o : plain.RunOutcome)
+    → NoTwoFilled (λ (r : PlainResult) bytes. plain.runOutcome (r .answer) (plainState (r .plain) bytes (p .rights)) ≡ o)
+plain-run-same p o r r′ bytes bytes′ e e′ =
+    let q = e ∙ sym e′ in (
+      ap₂ {C = PlainResult} (λ x y. record { plain = x; answer = y }) (ap (λ (u : plain.RunOutcome). u .state .plain) q)
+          (plain-told (r .answer) (r′ .answer) (ap (λ (u : plain.RunOutcome). u .numbers) q)),
+      ap (λ (u : plain.RunOutcome). u .state .bytes) q,
+    )
+
+plain-read-same : (o : plain.ReadOutcome) → NoTwoFilled (λ (v : Verdict) buffer. record { verdict = verdictNumbers v; buffer = buffer } ≡ o)
+plain-read-same o v v′ buffer buffer′ e e′ =
+    let q = e ∙ sym e′ in
+    (verdict-told v v′ (ap (λ (u : plain.ReadOutcome). u .verdict) q), ap (λ (u : plain.ReadOutcome). u .buffer) q)
+
+plain-write-same : (o : plain.WriteOutcome) → NoTwoFilled (λ (v : Verdict) bytes. record { verdict = verdictNumbers v; bytes = bytes } ≡ o)
+plain-write-same o v v′ bytes bytes′ e e′ =
+    let q = e ∙ sym e′ in
+    (verdict-told v v′ (ap (λ (u : plain.WriteOutcome). u .verdict) q), ap (λ (u : plain.WriteOutcome). u .bytes) q)
+
+plain-reply-same : (o : plain.ReplyOutcome) → NoTwo (λ (r : PlainHanded). record { verdict = verdictNumbers (r .verdict); plain = r .plain } ≡ o)
+plain-reply-same o r r′ e e′ =
+    let q = e ∙ sym e′ in
+    plain-handed-same r r′ (ap (λ (u : plain.ReplyOutcome). u .verdict) q) (ap (λ (u : plain.ReplyOutcome). u .plain) q)
+
+plain-load-same : (o : plain-load.LoadOutcome)
+    → NoTwoLent (λ (r : PlainHanded) bytes rights. record { verdict = verdictNumbers (r .verdict); state = plainState (r .plain) bytes rights } ≡ o)
+plain-load-same o r r′ bytes bytes′ rights rights′ e e′ =
+    let q = e ∙ sym e′ in (
+      plain-handed-same r r′ (ap (λ (u : plain-load.LoadOutcome). u .verdict) q) (ap (λ (u : plain-load.LoadOutcome). u .state .plain) q),
+      ap (λ (u : plain-load.LoadOutcome). u .state .bytes) q,
+      ap (λ (u : plain-load.LoadOutcome). u .state .rights) q,
+    )
+
 assemble-same : (o : AssembleOutcome) → NoTwoFilled (λ a out. assembleOutcome a out ≡ o)
 assemble-same o a a′ out out′ e e′ =
     let q = e ∙ sym e′ in
@@ -88,6 +130,7 @@ numbers-tell = record {
   stop = stop-told;
   run = run-told;
   image = image-told;
+  plain = plain-told;
   assemble = assemble-told;
   list = list-told;
 }
@@ -109,6 +152,17 @@ image-calls = record {
   rights = λ file. part-same file _;
   least-main-pages = λ frames. same _;
   load = λ file m. state-same (loadCall file m);
+}
+
+plain-calls : PlainCalls
+plain-calls = record {
+  run = λ p limit. plain-run-same p (plain.runCall p limit);
+  host-read = λ p va buffer. plain-read-same (plain.readCall p va buffer);
+  host-write = λ p va from. plain-write-same (plain.writeCall p va from);
+  view-answer = λ p x v v′ e e′. verdict-told v v′ (e ∙ sym e′);
+  page-view = λ m memory rights x. part-same memory _;
+  reply = λ m register value. plain-reply-same (plain.replyCall m register value);
+  load = λ file bytes rights. plain-load-same (plain-load.loadCall file bytes rights);
 }
 
 makers-calls : MakersCalls
@@ -137,6 +191,16 @@ exported = record {
   image = λ file answer. same _;
   assemble = λ text out answer. same _;
   list = λ bytes out answer. same _;
+}
+
+plain-exported : PlainExported
+plain-exported = record {
+  load = λ file memory rights words. same _;
+  run = λ words memory rights limit answer. same _;
+  read = λ words memory rights va into. same _;
+  write = λ words memory rights va from. same _;
+  view = λ words memory rights x into. same _;
+  reply = λ words register value. same _;
 }
 
 -- ---- the programs
@@ -187,8 +251,10 @@ unique = record {
   numbers = numbers-tell;
   machine = machine-calls;
   image = image-calls;
+  plain = plain-calls;
   makers = makers-calls;
   by-hand = by-hand;
   exported = exported;
+  plain-exported = plain-exported;
   programs = program-calls;
 }

@@ -15,13 +15,20 @@ use Rattle.model.specs.declared.ImageAnswer.{ImageAnswer}
 use Rattle.model.specs.declared.VirtualPage.{VirtualPage}
 use Rattle.model.specs.declared.FrameBook.{FrameBook}
 use Rattle.model.specs.declared.Machine.{Machine}
+use Rattle.plainmodel.specs.State.{PlainState}
+use Rattle.plainmodel.specs.Calls.{plainNumbers}
+use Rattle.plainmodel.specs.Promises as plain
+use Rattle.plainmodel.specs.declared.PlainAnswer.{PlainAnswer}
+use Rattle.plainmodel.specs.declared.Plain.{Plain}
 use Rattle.notation.specs.Calls.{assembleNumbers, listNumbers}
 use Rattle.notation.specs.Promises as notation
 use Rattle.notation.specs.declared.AssembleAnswer.{AssembleAnswer}
 use Rattle.notation.specs.declared.ListAnswer.{ListAnswer}
 use Rattle.image.specs.Hand as hand
 use Rattle.image.specs.declared.at_hand.Image.{Image}
+use Rattle.imagewords.specs.Image.{ImagePromise}
 use Rattle.capi.specs.Promises as exported
+use Rattle.plaincapi.specs.Promises as plain-exported
 use Rattle.program.specs.Promises.{ConsolePromise}
 use Rattle.script.specs.Promises.{ParsePromise}
 use Rattle.session.specs.Promises.{BeginPromise}
@@ -54,6 +61,7 @@ pub record NumbersTell : Type 0 where
   pub stop : (x y : Stop) → stopNumber x ≡ stopNumber y → stopDetail x ≡ stopDetail y → x ≡ y
   pub run : (x y : RunAnswer) → runNumbers x ≡ runNumbers y → x ≡ y
   pub image : (x y : ImageAnswer) → imageNumbers x ≡ imageNumbers y → x ≡ y
+  pub plain : (x y : PlainAnswer) → plainNumbers x ≡ plainNumbers y → x ≡ y
   pub assemble : (x y : AssembleAnswer) → assembleNumbers x ≡ assembleNumbers y → x ≡ y
   pub list : (x y : ListAnswer) → listNumbers x ≡ listNumbers y → x ≡ y
 
@@ -73,6 +81,17 @@ pub record ImageCalls : Type 0 where
   pub rights : (file : RefT (List ℕ)) → NoTwoParts (promises.RightsPromise file)
   pub least-main-pages : (frames : ℕ) → NoTwo (promises.LeastMainPagesPromise frames)
   pub load : (file : List ℕ) (m : Memory) → NoTwoLent (promises.LoadPromise file m)
+
+-- ---- those of the plain engine: a run and a write may change the lent memory, loading the rights too
+pub record PlainCalls : Type 0 where
+  pub run : (p : PlainState) (limit : ℕ) → NoTwoFilled (plain.RunPromise p limit)
+  pub host-read : (p : PlainState) (va : ℕ) (buffer : List ℕ) → NoTwoFilled (plain.ReadPromise p va buffer)
+  pub host-write : (p : PlainState) (va : ℕ) (from : List ℕ) → NoTwoFilled (plain.WritePromise p va from)
+  pub view-answer : (p : PlainState) (x : VirtualPage) → NoTwo (plain.ViewAnswerPromise p x)
+  pub page-view : (m : Plain) (memory : RefT (List ℕ)) (rights : List ℕ) (x : VirtualPage)
+      → NoTwoParts (plain.PageViewPromise m memory rights x)
+  pub reply : (m : Plain) (register value : ℕ) → NoTwo (plain.ReplyPromise m register value)
+  pub load : (file bytes rights : List ℕ) → NoTwoLent (plain.LoadPromise file bytes rights)
 
 -- ---- those of the makers' notation, `assembler` and `lister`
 pub record MakersCalls : Type 0 where
@@ -96,9 +115,18 @@ pub record Exported : Type 0 where
   pub write : (words main swap : List ℕ) (va : ℕ) (bytes : List ℕ) → NoTwo (exported.WritePromise words main swap va bytes)
   pub view : (words main swap : List ℕ) (x : ℕ) (into : List ℕ) → NoTwo (exported.ViewPromise words main swap x into)
   pub reply : (words : List ℕ) (register value : ℕ) → NoTwo (exported.ReplyPromise words register value)
-  pub image : (file answer : List ℕ) → NoTwo (exported.ImagePromise file answer)
+  pub image : (file answer : List ℕ) → NoTwo (ImagePromise file answer)
   pub assemble : (text out answer : List ℕ) → NoTwo (exported.AssemblePromise text out answer)
   pub list : (bytes out answer : List ℕ) → NoTwo (exported.ListPromise bytes out answer)
+
+-- the same of the plain engine's, whose rights are lent for reading but by loading; the reader's call is the one above
+pub record PlainExported : Type 0 where
+  pub load : (file memory rights words : List ℕ) → NoTwo (plain-exported.LoadPromise file memory rights words)
+  pub run : (words memory rights : List ℕ) (limit : ℕ) (answer : List ℕ) → NoTwo (plain-exported.RunPromise words memory rights limit answer)
+  pub read : (words memory rights : List ℕ) (va : ℕ) (into : List ℕ) → NoTwo (plain-exported.ReadPromise words memory rights va into)
+  pub write : (words memory rights : List ℕ) (va : ℕ) (from : List ℕ) → NoTwo (plain-exported.WritePromise words memory rights va from)
+  pub view : (words memory rights : List ℕ) (x : ℕ) (into : List ℕ) → NoTwo (plain-exported.ViewPromise words memory rights x into)
+  pub reply : (words : List ℕ) (register value : ℕ) → NoTwo (plain-exported.ReplyPromise words register value)
 
 -- ---- what the programs stand on
 pub record ProgramCalls : Type 0 where
@@ -115,7 +143,9 @@ pub record Unique : Type 0 where
   pub numbers : NumbersTell
   pub machine : MachineCalls
   pub image : ImageCalls
+  pub plain : PlainCalls
   pub makers : MakersCalls
   pub by-hand : ByHand
   pub exported : Exported
+  pub plain-exported : PlainExported
   pub programs : ProgramCalls

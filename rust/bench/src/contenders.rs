@@ -36,7 +36,7 @@ pub fn hosts() -> Vec<Entry<dyn Host>> {
     vec![("proved", |state| Box::new(Proved(state))), ("Rust", |state| Box::new(Plain::new(state)))]
 }
 
-struct Proved(State);
+pub struct Proved(pub State);
 
 impl Contender for Proved {
     fn run(&mut self, limit: u32) -> [u32; 5] {

@@ -1,17 +1,20 @@
 //! Times the proved library beside the same machine, assembler and lister in plain Rust (`peer`), and beside the
-//! machine in C: `bench [rounds]`. The contenders take turns in each round; a figure is the median over the
-//! rounds. It prints tables, and writes no file.
+//! machine in C; and the proved plain engine beside the proved paged machine and the plain engine in plain Rust:
+//! `bench [rounds]`. The contenders take turns in each round; a figure is the median over the rounds. It prints
+//! tables, and writes no file.
 #![deny(unsafe_code)]
 
 #[allow(unsafe_code)]
 mod contenders;
 mod guests;
 mod pages;
+mod plain;
 
 use contenders::{contenders, cpu_time, hosts, Contender, Entry, Host};
 use guests::{fresh, guests, Guest};
 use harness::State;
 use peer::PAGE;
+use plain::{runners, Runner};
 
 /// The instructions of a timed run, and how often a timed call is made.
 const RUN: u32 = 1_000_000;
@@ -24,6 +27,10 @@ fn main() {
     calls(rounds);
     println!();
     texts(rounds);
+    println!();
+    plain_runs(rounds);
+    println!();
+    plain_calls(rounds);
 }
 
 /// A full page of instructions, assembled and listed: into 18 bytes a word, which are always enough, and into an
@@ -113,6 +120,51 @@ fn calls(rounds: usize) {
     time_of("reply", 4, &|host| host.reply(1, 7));
 }
 
+/// The guests, on the plain engine.
+fn plain_runs(rounds: usize) {
+    let runners = runners();
+    heading("plain: guest, ns an instruction", &runners, "");
+    for guest in guests() {
+        same_guests(&guest, &runners);
+        let times = medians(rounds, &runners, |make| {
+            let mut machine = make(fresh(&guest));
+            let begin = cpu_time();
+            let answer = machine.run(RUN);
+            let time = cpu_time() - begin;
+            assert_eq!(answer, [0, 0, RUN]);
+            time / f64::from(RUN)
+        });
+        row(guest.name, &times, "");
+    }
+}
+
+/// One call of each kind on the plain engine; the paged machine has four frames, all in use. All but the reply
+/// check the machine, which on the plain engine is to look at GPR 0 and each rights byte.
+fn plain_calls(rounds: usize) {
+    let runners = runners();
+    heading("plain: one call, ns", &runners, "");
+    let time_of = |name: &'static str, ptl: u32, call: &dyn Fn(&mut dyn Runner)| {
+        let guest = Guest { name, frames: 4, ptl, code: Vec::new() };
+        let times = medians(rounds, &runners, |make| {
+            let mut runner = make(full(&guest));
+            let begin = cpu_time();
+            (0..CALLS).for_each(|_| call(&mut *runner));
+            (cpu_time() - begin) / f64::from(CALLS)
+        });
+        row(name, &times, "");
+    };
+    let run = |runner: &mut dyn Runner| assert_eq!(runner.run(0), [0; 3]);
+    time_of("run of 0 instructions, ptl 4", 4, &run);
+    time_of("run of 0 instructions, ptl 64", 64, &run);
+    time_of("run of 0 instructions, ptl 1024", 1024, &run);
+    time_of("read of 3 bytes, ptl 4", 4, &|runner| runner.read(4095, &mut [0; 3]));
+    time_of("read of 256 bytes, ptl 4", 4, &|runner| runner.read(4095, &mut [0; 256]));
+    time_of("write of 3 bytes, ptl 4", 4, &|runner| runner.write(4095, &[7; 3]));
+    time_of("write of 256 bytes, ptl 4", 4, &|runner| runner.write(4095, &[7; 256]));
+    time_of("view, ptl 4", 4, &|runner| runner.view(1, &mut [0; PAGE]));
+    time_of("reply", 4, &|runner| runner.reply(1, 7));
+}
+
 /// Reads across the border of pages 0 and 1.
 fn read<const LENGTH: usize>(host: &mut dyn Host) {
     let mut into = [0; LENGTH];
@@ -151,6 +203,20 @@ fn agree(guest: &Guest, contenders: &[Entry<dyn Contender>]) {
     }
 }
 
+/// Every runner must answer the same and leave the same guest, after runs of several lengths.
+fn same_guests(guest: &Guest, runners: &[Entry<dyn Runner>]) {
+    for limit in [0, 1, 2, 3, 5, 17, 1000, 40_000] {
+        let outcome = |(_, make): &Entry<dyn Runner>| {
+            let mut machine = make(fresh(guest));
+            (machine.run(limit), machine.guest())
+        };
+        let first = outcome(&runners[0]);
+        for runner in &runners[1..] {
+            assert!(outcome(runner) == first, "{} differs on {} after {limit}", runner.0, guest.name);
+        }
+    }
+}
+
 /// The median time of each contender.
 fn medians<M: ?Sized>(
     rounds: usize,
@@ -172,7 +238,8 @@ fn medians<M: ?Sized>(
 
 fn heading<M: ?Sized>(what: &str, contenders: &[Entry<M>], more: &str) {
     let names: String = contenders.iter().map(|(name, _)| format!(" {name} |")).collect();
-    let ratios: String = contenders[1..].iter().map(|(name, _)| format!(" proved / {name} |")).collect();
+    let first = contenders[0].0;
+    let ratios: String = contenders[1..].iter().map(|(name, _)| format!(" {first} / {name} |")).collect();
     let head = format!("| {what} |{names}{ratios}{more}");
     println!("{head}\n|{}", "---|".repeat(head.matches('|').count() - 1));
 }

@@ -4,7 +4,8 @@
 //! everything that it does; [`assemble`] and [`list()`] are the makers' tools. This crate adds types, and no
 //! rule of its own. [`calls`] has the same calls on lent slices. The names are those of the header:
 //! BRENWYTHAL_DPC is [`DPC`], BRENWYTHAL_STOP_TRAP is [`Stop::Trap`], BRENWYTHAL_REFUSAL_BOUND is
-//! [`Refusal::Bound`].
+//! [`Refusal::Bound`]. With the feature `plain` there is a second engine, without pages that move: the module
+//! `plain`.
 //!
 //! ```no_run
 //! use brenwythal::{image, Machine, Stop};
@@ -24,6 +25,8 @@
 pub mod calls;
 mod makers;
 mod places;
+#[cfg(feature = "plain")]
+pub mod plain;
 mod refusal;
 
 pub use makers::{assemble, list, BadText};

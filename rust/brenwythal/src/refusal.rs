@@ -7,9 +7,10 @@ use std::fmt;
 pub enum Refusal {
     /// 1: a shape number or a memory's length breaks its bound; bytes to list are no whole number of words.
     Bound,
-    /// 2: registers, frame book, page table and pages do not agree.
+    /// 2: registers, frame book, page table and pages do not agree; of a plain machine, register 0 is not 0 or
+    /// a rights byte is above 3.
     Unsound,
-    /// 3: a page is outside the page table, or lacks the right.
+    /// 3: a page is outside the page table, or lacks the right; a plain machine has as many pages as rights.
     Rights,
     /// 4: the run or the transfer is too long, or the register is not 1 to 31.
     TooMuch,
@@ -74,7 +75,9 @@ impl fmt::Display for Refusal {
     fn fmt(&self, f: &mut fmt::Formatter) -> fmt::Result {
         let why = match self {
             Refusal::Bound => "a shape number or a memory's length breaks its bound",
-            Refusal::Unsound => "registers, frame book, page table and pages do not agree",
+            Refusal::Unsound => {
+                "registers, frame book, page table and pages do not agree, or a rights byte is above 3"
+            }
             Refusal::Rights => "a page is outside the page table, or lacks the right",
             Refusal::TooMuch => "the run or the transfer is too long, or the register is not 1 to 31",
             Refusal::Edition => "no console image of edition 1",

@@ -1,7 +1,11 @@
-//! The names of brenwythal.h and of this crate are the same, with the same numbers.
+//! The names of the headers and of this crate are the same, with the same numbers, and the calls are declared as
+//! the headers have them.
 use brenwythal::*;
 
 const HEADER: &str = include_str!("../../../crates/capi/brenwythal.h");
+const CALLS: &str = include_str!("../src/calls.rs");
+const PLAIN_HEADER: &str = include_str!("../../../crates/plaincapi/brenwythal_plain.h");
+const PLAIN_CALLS: &str = include_str!("../src/plain/calls.rs");
 
 /// `IllegalMemory(0)` is `ILLEGAL_MEMORY`.
 fn shouted(variant: impl std::fmt::Debug) -> String {
@@ -17,18 +21,49 @@ fn shouted(variant: impl std::fmt::Debug) -> String {
     shouted
 }
 
-/// Every name of the header behind BRENWYTHAL_ with its number, but for the include guard.
-fn in_header() -> Vec<(String, usize)> {
-    let code = HEADER.split("#define BRENWYTHAL_H\n").nth(1).unwrap();
+/// Every name of a header behind this prefix with its number, but for the include guard.
+fn in_header(header: &str, prefix: &str) -> Vec<(String, usize)> {
+    let code = header.split(&format!("#define {prefix}H\n")).nth(1).unwrap();
     let mut names = Vec::new();
     for line in code.lines() {
         let line = line.trim_start().trim_start_matches("#define ");
-        if let Some(named) = line.strip_prefix("BRENWYTHAL_") {
+        if let Some(named) = line.strip_prefix(prefix) {
             let mut words = named.split([' ', ',', '=']).filter(|word| !word.is_empty());
             names.push((words.next().unwrap().to_string(), words.next().unwrap().parse().unwrap()));
         }
     }
     names
+}
+
+/// These places, the stops and so many refusals have the names and numbers of the header.
+fn compare(places: &[(&str, usize)], refusals: usize, header: &str, prefix: &str) {
+    let stops = [
+        Stop::Limit,
+        Stop::Trap(0),
+        Stop::IllegalMemory(0),
+        Stop::Misaligned(0),
+        Stop::IllegalInstruction(0),
+    ];
+    let named = [
+        Refusal::Bound,
+        Refusal::Unsound,
+        Refusal::Rights,
+        Refusal::TooMuch,
+        Refusal::Edition,
+        Refusal::Format,
+        Refusal::Room,
+        Refusal::Mnemonic,
+        Refusal::Operand,
+        Refusal::Overflow,
+    ];
+    let mut ours: Vec<_> = places.iter().map(|&(name, number)| (name.to_string(), number)).collect();
+    ours.extend(stops.iter().map(|&stop| (format!("STOP_{}", shouted(stop)), stop.number() as usize)));
+    let refusal = |&refusal: &Refusal| (format!("REFUSAL_{}", shouted(refusal)), refusal.number() as usize);
+    ours.extend(named[..refusals].iter().map(refusal));
+    let mut theirs = in_header(header, prefix);
+    ours.sort();
+    theirs.sort();
+    assert_eq!(ours, theirs);
 }
 
 #[test]
@@ -66,32 +101,74 @@ fn names_are_those_of_the_header() {
         ("LIST_ANSWER", LIST_ANSWER),
         ("LIST_LENGTH", LIST_LENGTH),
     ];
-    let stops = [
-        Stop::Limit,
-        Stop::Trap(0),
-        Stop::IllegalMemory(0),
-        Stop::Misaligned(0),
-        Stop::IllegalInstruction(0),
+    compare(&places, 10, HEADER, "BRENWYTHAL_");
+}
+
+#[cfg(feature = "plain")]
+#[test]
+fn names_are_those_of_the_plain_header() {
+    let places = [
+        ("PAGE", plain::PAGE),
+        ("RECORD", plain::RECORD),
+        ("PTL", plain::PTL),
+        ("GPR", plain::GPR),
+        ("DPC", plain::DPC),
+        ("NEXT", plain::NEXT),
+        ("RUN_ANSWER", plain::RUN_ANSWER),
+        ("STOP", plain::STOP),
+        ("DETAIL", plain::DETAIL),
+        ("FINISHED", plain::FINISHED),
+        ("IMAGE_ANSWER", plain::IMAGE_ANSWER),
+        ("IMAGE_PTL", plain::IMAGE_PTL),
+        ("IMAGE_START", plain::IMAGE_START),
+        ("IMAGE_FRAMES", plain::IMAGE_FRAMES),
     ];
-    let refusals = [
-        Refusal::Bound,
-        Refusal::Unsound,
-        Refusal::Rights,
-        Refusal::TooMuch,
-        Refusal::Edition,
-        Refusal::Format,
-        Refusal::Room,
-        Refusal::Mnemonic,
-        Refusal::Operand,
-        Refusal::Overflow,
-    ];
-    let mut ours: Vec<_> = places.iter().map(|&(name, number)| (name.to_string(), number)).collect();
-    ours.extend(stops.iter().map(|&stop| (format!("STOP_{}", shouted(stop)), stop.number() as usize)));
-    ours.extend(
-        refusals.iter().map(|&refusal| (format!("REFUSAL_{}", shouted(refusal)), refusal.number() as usize)),
-    );
-    let mut theirs = in_header();
-    ours.sort();
-    theirs.sort();
-    assert_eq!(ours, theirs);
+    compare(&places, 7, PLAIN_HEADER, "BRENWYTHAL_PLAIN_");
+}
+
+/// What stands between two words, with one blank for every row of blanks and newlines.
+fn between<'t>(text: &'t str, begin: &str, end: &'t str) -> impl Iterator<Item = String> + 't {
+    let parts: Vec<&str> = text.split(begin).skip(1).collect();
+    parts.into_iter().map(move |part| {
+        let part = part.split(end).next().unwrap();
+        part.split_whitespace().collect::<Vec<_>>().join(" ")
+    })
+}
+
+/// `const uint8_t *file` is `file: *const u8`.
+fn in_rust(parameter: &str) -> String {
+    let (kind, name) = parameter.rsplit_once(' ').unwrap();
+    let (base, fixed) = match kind.strip_prefix("const ") {
+        Some(base) => (base, "*const "),
+        None => (kind, "*mut "),
+    };
+    let base = match base {
+        "uint8_t" => "u8",
+        "uint32_t" => "u32",
+        "size_t" => "usize",
+        other => panic!("{other}"),
+    };
+    match name.strip_prefix('*') {
+        Some(name) => format!("{name}: {fixed}{base}"),
+        None => format!("{name}: {base}"),
+    }
+}
+
+/// Each call, its parameters and their types, one by one and in the header's order.
+#[test]
+fn calls_are_declared_as_in_the_headers() {
+    for (header, calls, count) in [(HEADER, CALLS, 10), (PLAIN_HEADER, PLAIN_CALLS, 7)] {
+        let theirs: Vec<String> = between(header, "\nuint32_t ", ");")
+            .map(|call| {
+                let (name, parameters) = call.split_once('(').unwrap();
+                let parameters: Vec<String> = parameters.split(", ").map(in_rust).collect();
+                format!("{name}({})", parameters.join(", "))
+            })
+            .collect();
+        let ours: Vec<String> = between(calls, "        pub fn ", ") -> u32;")
+            .map(|call| call.replace("( ", "(").trim_end_matches(',').to_string() + ")")
+            .collect();
+        assert_eq!(ours, theirs);
+        assert_eq!(ours.len(), count);
+    }
 }

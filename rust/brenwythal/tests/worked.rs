@@ -266,7 +266,7 @@ fn parts_that_do_not_fit() {
 fn refusals_say_their_number() {
     assert_eq!(
         Refusal::Unsound.to_string(),
-        "refused 2: registers, frame book, page table and pages do not agree"
+        "refused 2: registers, frame book, page table and pages do not agree, or a rights byte is above 3"
     );
     let all = [
         Refusal::Bound,

@@ -1,7 +1,11 @@
-//! Compares the proved library with the peer: `compare [seed] [calls]`, as the harness has it.
+//! Compares the proved library and the proved plain engine with the peer: `compare [seed] [calls]`, and
+//! `compare plain [seed] [calls]`, as the harness has it.
 #![forbid(unsafe_code)]
+mod plain;
+
 use brenwythal::{calls, Machine, PAGE};
 use harness::{Engine, ImageAnswer, Notation, State};
+use plain::ProvedPlain;
 
 /// What stands in an answer or a buffer before the call, to see what the library writes there.
 const BEFORE: u32 = 0xDEAD_BEEF;
@@ -97,7 +101,7 @@ fn with<T>(state: &mut State, act: impl FnOnce(&mut Machine) -> T) -> T {
 }
 
 fn main() -> std::io::Result<()> {
-    harness::cli(&mut Proved)
+    harness::cli(&mut Proved, &mut ProvedPlain)
 }
 
 #[cfg(test)]

@@ -1,4 +1,5 @@
 //! The calls of a series: how each is carried out, printed, and made smaller.
+use crate::compare::Simpler;
 use crate::engine::{Engine, ImageAnswer, State};
 use crate::rng::{fill, Rng};
 use peer::{Record, PAGE, WORDS};
@@ -80,7 +81,7 @@ pub enum Edit {
 }
 
 impl Content {
-    fn put(&self, pages: &mut [u8]) {
+    pub(crate) fn put(&self, pages: &mut [u8]) {
         fill(self.seed, pages);
         for &(va, word) in &self.words {
             put_word(pages, va as usize, word);
@@ -94,7 +95,7 @@ fn put_word(bytes: &mut [u8], at: usize, word: u32) {
     }
 }
 
-fn put_byte(bytes: &mut [u8], at: usize, byte: u8) {
+pub(crate) fn put_byte(bytes: &mut [u8], at: usize, byte: u8) {
     if let Some(place) = bytes.get_mut(at) {
         *place = byte;
     }
@@ -149,6 +150,12 @@ impl Image {
         file.extend(self.trailer.iter().flat_map(|number| number.to_le_bytes()));
         let end = file.len().saturating_sub(self.back);
         file[self.front.min(end)..end].to_vec()
+    }
+
+    /// The images whose pages hold less.
+    pub(crate) fn simpler(&self) -> Vec<Image> {
+        let with = |content| Image { content, ..self.clone() };
+        self.content.simpler().into_iter().map(with).collect()
     }
 }
 
@@ -208,16 +215,14 @@ impl Call {
         }
         Answer::Nothing
     }
+}
 
-    /// Calls that are smaller than this one.
-    pub fn simpler(&self) -> Vec<Call> {
-        let of = |content: &Content, make: &dyn Fn(Content) -> Call| {
-            content.simpler().into_iter().map(make).collect()
-        };
+impl Simpler for Call {
+    fn simpler(&self) -> Vec<Call> {
         match self {
             Call::Make(setup) => {
-                let mut list: Vec<Call> =
-                    of(&setup.content, &|content| Call::Make(Box::new(Setup { content, ..*setup.clone() })));
+                let with = |content| Call::Make(Box::new(Setup { content, ..*setup.clone() }));
+                let mut list: Vec<Call> = setup.content.simpler().into_iter().map(with).collect();
                 for i in (0..32).filter(|&i| setup.rec.gpr[i] != 0) {
                     let mut less = setup.clone();
                     less.rec.gpr[i] = 0;
@@ -235,7 +240,7 @@ impl Call {
                 list
             }
             Call::Load(image, main, swap) => {
-                of(&image.content, &|content| Call::Load(Image { content, ..image.clone() }, *main, *swap))
+                image.simpler().into_iter().map(|image| Call::Load(image, *main, *swap)).collect()
             }
             Call::Poke(edits) => shorter(edits).into_iter().map(Call::Poke).collect(),
             Call::Run(limit) => less(*limit as usize).map(|less| Call::Run(less as u32)).collect(),

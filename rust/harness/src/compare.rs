@@ -36,11 +36,17 @@ impl fmt::Display for Stats {
 }
 
 /// A difference, with the smallest series found that shows it.
-pub struct Failure {
+pub struct Failure<C = Call> {
     pub seed: u64,
     pub series: u64,
     pub what: String,
-    pub calls: Vec<Call>,
+    pub calls: Vec<C>,
+}
+
+/// What a series is made of.
+pub trait Simpler: Clone {
+    /// What is smaller than this and of its kind.
+    fn simpler(&self) -> Vec<Self>;
 }
 
 /// Compares the engines on at least this many calls (the last series is played to its end).
@@ -57,7 +63,7 @@ pub fn compare(seed: u64, calls: u64, a: &mut dyn Engine, b: &mut dyn Engine) ->
             match pair.step(&played[played.len() - 1]) {
                 Ok(answer) => last = answer,
                 Err(what) => {
-                    let (calls, what) = shrink(&mut pair, played, what);
+                    let (calls, what) = shrink(|calls| pair.play(calls), played, what);
                     return Err(Failure { seed, series, what, calls });
                 }
             }
@@ -68,31 +74,22 @@ pub fn compare(seed: u64, calls: u64, a: &mut dyn Engine, b: &mut dyn Engine) ->
     Ok(stats)
 }
 
-struct Pair<'e> {
-    a: &'e mut dyn Engine,
-    b: &'e mut dyn Engine,
-    left: State,
-    right: State,
+pub(crate) struct Pair<'e> {
+    pub a: &'e mut dyn Engine,
+    pub b: &'e mut dyn Engine,
+    pub left: State,
+    pub right: State,
 }
 
 impl Pair<'_> {
     /// One call on both; the common answer, or the first difference.
-    fn step(&mut self, call: &Call) -> Result<Answer, String> {
-        let play = |engine: &mut dyn Engine, state: &mut State| {
-            let caught = catch_unwind(AssertUnwindSafe(|| call.apply(engine, state)));
-            caught.map_err(|_| "an engine panicked".to_string())
-        };
-        let left = play(self.a, &mut self.left)?;
-        let right = play(self.b, &mut self.right)?;
-        if left != right {
-            return Err(format!("answers differ: {left:02x?} and {right:02x?}"));
-        }
-        let mut words = (0..).zip(self.left.words.iter().zip(&self.right.words));
-        if let Some((index, (x, y))) = words.find(|(_, (x, y))| x != y) {
-            return Err(format!("{} differs: {x:#x} and {y:#x}", word_name(index)));
-        }
-        differ("main", &self.left.main, &self.right.main)?;
-        differ("swap", &self.left.swap, &self.right.swap)?;
+    pub fn step(&mut self, call: &Call) -> Result<Answer, String> {
+        let left = caught(|| call.apply(self.a, &mut self.left))?;
+        let right = caught(|| call.apply(self.b, &mut self.right))?;
+        same_answers(&left, &right)?;
+        same_words(&self.left.words, &self.right.words, word_name)?;
+        same_bytes("main", &self.left.main, &self.right.main)?;
+        same_bytes("swap", &self.left.swap, &self.right.swap)?;
         Ok(left)
     }
 
@@ -103,7 +100,27 @@ impl Pair<'_> {
     }
 }
 
-fn differ(name: &str, left: &[u8], right: &[u8]) -> Result<(), String> {
+/// What an engine answers, if it comes back.
+pub(crate) fn caught(call: impl FnOnce() -> Answer) -> Result<Answer, String> {
+    catch_unwind(AssertUnwindSafe(call)).map_err(|_| "an engine panicked".to_string())
+}
+
+pub(crate) fn same_answers(left: &Answer, right: &Answer) -> Result<(), String> {
+    if left == right {
+        return Ok(());
+    }
+    Err(format!("answers differ: {left:02x?} and {right:02x?}"))
+}
+
+pub(crate) fn same_words(left: &[u32], right: &[u32], name: fn(usize) -> String) -> Result<(), String> {
+    let mut words = (0..).zip(left.iter().zip(right));
+    match words.find(|(_, (x, y))| x != y) {
+        Some((index, (x, y))) => Err(format!("{} differs: {x:#x} and {y:#x}", name(index))),
+        None => Ok(()),
+    }
+}
+
+pub(crate) fn same_bytes(name: &str, left: &[u8], right: &[u8]) -> Result<(), String> {
     if left == right {
         return Ok(());
     }
@@ -111,14 +128,19 @@ fn differ(name: &str, left: &[u8], right: &[u8]) -> Result<(), String> {
     Err(format!("{name} differs at {at:#x}: {:02x?} and {:02x?}", left.get(at), right.get(at)))
 }
 
-/// Takes calls away and makes calls smaller, as long as some difference stays and for a bounded time.
-fn shrink(pair: &mut Pair, mut calls: Vec<Call>, mut what: String) -> (Vec<Call>, String) {
+/// Takes calls away and makes calls smaller, as long as some difference stays and for a bounded time. `play`
+/// gives the first difference of a series and the number of calls up to it.
+pub(crate) fn shrink<C: Simpler>(
+    mut play: impl FnMut(&[C]) -> Option<(usize, String)>,
+    mut calls: Vec<C>,
+    mut what: String,
+) -> (Vec<C>, String) {
     let mut candidates = smaller(&calls);
     let (mut next, mut fruitless, mut plays) = (0, 0, 0);
     while fruitless < candidates.len() && plays < 5000 {
         plays += 1;
         let candidate = &candidates[next % candidates.len()];
-        if let Some((count, difference)) = pair.play(candidate) {
+        if let Some((count, difference)) = play(candidate) {
             (calls, what, fruitless) = (candidate[..count].to_vec(), difference, 0);
             candidates = smaller(&calls);
         } else {
@@ -130,7 +152,7 @@ fn shrink(pair: &mut Pair, mut calls: Vec<Call>, mut what: String) -> (Vec<Call>
 }
 
 /// The series that are one reduction smaller.
-fn smaller(calls: &[Call]) -> Vec<Vec<Call>> {
+fn smaller<C: Simpler>(calls: &[C]) -> Vec<Vec<C>> {
     let mut list = shorter(calls);
     for (i, call) in calls.iter().enumerate() {
         let changed = |less| [&calls[..i], &[less], &calls[i + 1..]].concat();
@@ -140,7 +162,7 @@ fn smaller(calls: &[Call]) -> Vec<Vec<Call>> {
 }
 
 impl Stats {
-    fn count(&mut self, answer: &Answer) {
+    pub(crate) fn count(&mut self, answer: &Answer) {
         self.calls += 1;
         let refusal = match answer {
             Answer::Nothing => return,
@@ -162,14 +184,14 @@ impl Stats {
     }
 }
 
-impl fmt::Display for Failure {
+impl<C: fmt::Display> fmt::Display for Failure<C> {
     fn fmt(&self, f: &mut fmt::Formatter) -> fmt::Result {
         writeln!(f, "{} (seed {}, series {}), after:", self.what, self.seed, self.series)?;
         (0..).zip(&self.calls).try_for_each(|(i, call): (usize, _)| writeln!(f, "  {i}: {call}"))
     }
 }
 
-impl fmt::Debug for Failure {
+impl<C: fmt::Display> fmt::Debug for Failure<C> {
     fn fmt(&self, f: &mut fmt::Formatter) -> fmt::Result {
         fmt::Display::fmt(self, f)
     }

@@ -73,7 +73,7 @@ fn with<T>(state: &mut State, call: impl FnOnce(&mut Record, &mut [u8], &mut [u8
     answer
 }
 
-fn number<T>(answer: Result<T, u32>) -> u32 {
+pub(crate) fn number<T>(answer: Result<T, u32>) -> u32 {
     answer.err().unwrap_or(0)
 }
 

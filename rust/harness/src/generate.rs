@@ -9,7 +9,7 @@ use peer::Record;
 const MARKS: usize = 74;
 
 pub struct Generator {
-    rng: Rng,
+    pub(crate) rng: Rng,
     /// Where the program can be entered.
     starts: Vec<u32>,
     /// What takes the present damage back.
@@ -39,31 +39,13 @@ impl Generator {
         }
         match self.rng.weighted(&[46, 12, 14, 6, 6, 9, 3, 9]) {
             0 => Call::Run(self.limit(stuck)),
-            1 => {
-                let len = self.length();
-                Call::Read(self.address(&rec, len), len as usize)
-            }
-            2 => {
-                let len = self.length();
-                let va = self.address(&rec, len);
-                let mut bytes: Vec<u8> = (0..len).map(|_| self.rng.word() as u8).collect();
-                if self.rng.one_in(4) {
-                    // What stands there already, where that can be read: a write marks all the same.
-                    let _ = peer::host_read(&rec, &state.main, &state.swap, va, &mut bytes);
-                }
-                Call::Write(va, bytes)
-            }
-            3 => {
-                let ptl = rec.ptl;
-                let near = [ptl.wrapping_sub(1), ptl, ptl.wrapping_add(1), 0x10_0000, u32::MAX];
-                let resident = rec.book[self.rng.below(4) as usize];
-                let inside = self.rng.below(ptl.max(1));
-                Call::View(self.rng.pick(&[self.rng.pick(&near), resident, inside, inside]))
-            }
-            4 => {
-                let register = if self.rng.one_in(9) { self.rng.word() } else { self.rng.below(34) };
-                Call::Reply(register, value(&self.rng, rec.ptl.clamp(1, 1024)))
-            }
+            1 => self.read(&rec),
+            2 => self.write(&rec, |va, bytes| {
+                // A write marks all the same where its bytes stand there already.
+                let _ = peer::host_read(&rec, &state.main, &state.swap, va, bytes);
+            }),
+            3 => self.view(&rec),
+            4 => self.reply(&rec),
             5 => {
                 let mut edits = self.damage(&rec, state);
                 if self.rng.one_in(6) {
@@ -72,18 +54,50 @@ impl Generator {
                 self.undo.splice(0..0, edits.iter().map(|edit| edit.inverse(state)));
                 Call::Poke(edits)
             }
-            6 => {
-                let ptl = self.ptl();
-                let image = self.image(ptl);
-                Call::Image(self.damaged(image))
-            }
+            6 => self.reading(),
             _ => self.spare(&rec),
         }
     }
 
+    pub(crate) fn read(&mut self, rec: &Record) -> Call {
+        let len = self.length();
+        Call::Read(self.address(rec, len), len as usize)
+    }
+
+    /// A write, at times of what `standing` puts in the place of its bytes.
+    pub(crate) fn write(&mut self, rec: &Record, standing: impl FnOnce(u32, &mut [u8])) -> Call {
+        let len = self.length();
+        let va = self.address(rec, len);
+        let mut bytes: Vec<u8> = (0..len).map(|_| self.rng.word() as u8).collect();
+        if self.rng.one_in(4) {
+            standing(va, &mut bytes);
+        }
+        Call::Write(va, bytes)
+    }
+
+    pub(crate) fn view(&mut self, rec: &Record) -> Call {
+        let ptl = rec.ptl;
+        let near = [ptl.wrapping_sub(1), ptl, ptl.wrapping_add(1), 0x10_0000, u32::MAX];
+        let resident = rec.book[self.rng.below(4) as usize];
+        let inside = self.rng.below(ptl.max(1));
+        Call::View(self.rng.pick(&[self.rng.pick(&near), resident, inside, inside]))
+    }
+
+    pub(crate) fn reply(&mut self, rec: &Record) -> Call {
+        let register = if self.rng.one_in(9) { self.rng.word() } else { self.rng.below(34) };
+        Call::Reply(register, value(&self.rng, rec.ptl.clamp(1, 1024)))
+    }
+
+    /// An image that is only read.
+    pub(crate) fn reading(&mut self) -> Call {
+        let ptl = self.ptl();
+        let image = self.image(ptl);
+        Call::Image(self.damaged(image))
+    }
+
     /// The host's change of a page's spare bits: a page that is in a frame, has code, or any other; seldom one
     /// beyond the table, or a value of more than 9 bits.
-    fn spare(&mut self, rec: &Record) -> Call {
+    pub(crate) fn spare(&mut self, rec: &Record) -> Call {
         let rng = &self.rng;
         let ptl = rec.ptl;
         let beyond = [ptl, ptl.wrapping_add(1), 1023, 1024, 0x4000_0000, u32::MAX];
@@ -100,7 +114,7 @@ impl Generator {
     }
 
     /// Lets a stopped machine go on: past the instruction, or from an entry of its program.
-    fn resume(&mut self, rec: &Record) -> Call {
+    pub(crate) fn resume(&mut self, rec: &Record) -> Call {
         let start = self.rng.pick(&self.starts);
         let (dpc, next) = match self.rng.below(8) {
             0 | 1 => (rec.pcp, rec.pcp.wrapping_add(4)),
@@ -113,7 +127,7 @@ impl Generator {
         Call::Poke(vec![Edit::Word(72, dpc), Edit::Word(73, next)])
     }
 
-    fn limit(&mut self, stuck: bool) -> u32 {
+    pub(crate) fn limit(&mut self, stuck: bool) -> u32 {
         match self.rng.weighted(&[50, 150, 200, 350, 200, 30, 10]) {
             0 => 0,
             1 => 1,
@@ -166,7 +180,7 @@ impl Generator {
         Call::Load(image, main, swap)
     }
 
-    fn ptl(&mut self) -> u32 {
+    pub(crate) fn ptl(&mut self) -> u32 {
         match self.rng.weighted(&[40, 130, 20, 1]) {
             0 => self.rng.range(1, 3),
             1 => self.rng.range(4, 10),
@@ -176,7 +190,7 @@ impl Generator {
     }
 
     /// A machine of any allowed shape, with pages in its frames.
-    fn setup(&mut self) -> Call {
+    pub(crate) fn setup(&mut self) -> Call {
         // Seldom all 32 frames hold a page, or all but one: each bit of the marks has a frame.
         let wide = self.rng.one_in(40);
         let ptl = if wide { self.rng.range(32, 40) } else { self.ptl() };

@@ -1,5 +1,5 @@
-//! Compares engines for the machine of document 01 on generated series of calls, and assemblers and listers for
-//! the makers' notation of document 02 on generated texts.
+//! Compares engines for the machine of document 01, and for the plain engine of document 02 beside it, on
+//! generated series of calls, and assemblers and listers for the makers' notation on generated texts.
 #![forbid(unsafe_code)]
 
 pub mod call;
@@ -7,6 +7,7 @@ mod cli;
 pub mod compare;
 pub mod engine;
 pub mod generate;
+pub mod plain;
 pub mod program;
 pub mod rng;
 pub mod texts;
@@ -14,4 +15,5 @@ pub mod texts;
 pub use cli::cli;
 pub use compare::{compare, Failure, Stats};
 pub use engine::{place_of, Engine, ImageAnswer, Peer, State};
+pub use plain::{compare_plain, PlainEngine, PlainPeer, PlainState, PlainStats};
 pub use texts::{compare_texts, Notation, TextStats};

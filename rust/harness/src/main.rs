@@ -1,5 +1,5 @@
-//! The command line with the peer as its own second engine.
+//! The command line with the peer's engines as their own second ones.
 
 fn main() -> std::io::Result<()> {
-    harness::cli(&mut harness::Peer)
+    harness::cli(&mut harness::Peer, &mut harness::PlainPeer)
 }

@@ -104,7 +104,7 @@ impl Machine<'_> {
 }
 
 /// The register number whose lowest bit is bit `low` of the word.
-fn register(word: u32, low: u32) -> usize {
+pub(crate) fn register(word: u32, low: u32) -> usize {
     (word >> low & 31) as usize
 }
 
@@ -148,8 +148,9 @@ fn decode(word: u32, gpr: &[u32; 32], pcp: u32) -> Option<Effect> {
     })
 }
 
-/// The functions under opcode 0.
-fn operate(word: u32, rs1: u32, rs2: u32) -> Option<u32> {
+/// The functions under opcode 0. Both machines have it in their loop, so that neither calls it.
+#[inline(always)]
+pub(crate) fn operate(word: u32, rs1: u32, rs2: u32) -> Option<u32> {
     let sa = word >> 6 & 31;
     Some(match word & 63 {
         0 => rs1 << sa,
@@ -170,7 +171,7 @@ fn operate(word: u32, rs1: u32, rs2: u32) -> Option<u32> {
 }
 
 /// "never, >, =, ≥, <, ≠, ≤, always; signed": opcodes 24–31 and functions 40–47.
-fn compare(code: u32, x: u32, y: u32) -> u32 {
+pub(crate) fn compare(code: u32, x: u32, y: u32) -> u32 {
     let (x, y) = (x as i32, y as i32);
     let holds = match code % 8 {
         0 => false,

@@ -1,4 +1,5 @@
-//! The paged DLX console machine of documents 01 and 02, in plain safe Rust, and the makers' notation of 02.
+//! The paged DLX console machine of documents 01 and 02, in plain safe Rust, with the plain engine and the
+//! makers' notation of 02.
 //!
 //! It is written from the documents alone and is the independent reading against which another
 //! implementation is compared, and the baseline of its benchmarks. Quoted sentences are the document's.
@@ -9,6 +10,7 @@ mod host;
 mod image;
 mod notation;
 mod paging;
+pub mod plain;
 mod record;
 
 pub use cpu::{run, Ran};

@@ -1,16 +1,9 @@
--- `brenwythal_image`: an answer of another length, or the numbers of the image.
-use Rattle.capi.proofs.Calls.{image-short, image-whole}
+-- `brenwythal_image`: what the reader's call leaves.
 use borrow.Author.Needs.{needs}
 use Rattle.capi.proofs.brenwythal_image.Statement.{statement}
 use Rattle.capi.proofs.brenwythal_image.Tie as tie
 
-returns : tie.Need-returns
-returns c = image-short _ _ (search needs)
-
-returns-2 : tie.Need-returns-2
-returns-2 c = image-whole _ _ (search needs) (c .before .before .before .read .result) (c .before .before .before .read .ensures) _ _ (c .before .before .put-image .ensures)
-
 pub brenwythal-image-spec : {M : Type 1} → statement M
 brenwythal-image-spec =
     tie.close
-    (tie.spec returns (λ c κs. search needs) (λ c κs. search needs) (λ c. search needs) returns-2)
+    (tie.spec (λ c κs. search needs) (λ c. search needs) (λ c. search needs))

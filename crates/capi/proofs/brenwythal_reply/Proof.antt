@@ -1,6 +1,6 @@
 -- `brenwythal_reply`: a record of another length, the register's word set, or a refusal.
 use native.Mathlib.Omega.{arith}
-use Rattle.host.proofs.Leans.{reply-leans}
+use Rattle.laws.proofs.Granted.{reply-leans}
 use Rattle.capi.proofs.Calls.{reply-short, reply-set, reply-not}
 use borrow.Author.Needs.{needs}
 use Rattle.capi.proofs.brenwythal_reply.Statement.{statement}

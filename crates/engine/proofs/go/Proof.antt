@@ -8,7 +8,7 @@ use Rattle.model.specs.Run.{uncounted}
 use Rattle.laws.proofs.Seated.{safe}
 use Rattle.engine.specs.Engine.{of, counted}
 use Rattle.engine.proofs.Running.{byte-most, Running, begun, run-out, leg-few, leg-on, leg-trapped, leg-stopped, leg-never, leg-frame, leg-ready, leg-again}
-use Rattle.engine.proofs.Walking.{finished}
+use Rattle.cpu.proofs.Finishing.{finished}
 use Rattle.engine.proofs.go.Statement.{statement}
 use Rattle.engine.proofs.go.Tie as tie
 

@@ -2,9 +2,11 @@
 use borrow.Author.Needs.{needs}
 use borrow.Author.Tests.{eqb-true, not-false}
 use mathlib.Core.Path.{sym, ap, subst, _∙_}
-use Rattle.engine.specs.Engine.{Finished}
+use Rattle.cpu.specs.Finished.{Finished}
+use Rattle.cpu.proofs.Ways.{placed}
 use Rattle.cpu.proofs.CodePages.{uncovered}
-use Rattle.engine.proofs.Walking.{no-fetch, begun, left-with}
+use Rattle.cpu.proofs.Finishing.{no-fetch}
+use Rattle.engine.proofs.Walking.{begun, left-with}
 use Rattle.engine.proofs.leg_from.Statement.{statement}
 use Rattle.engine.proofs.leg_from.Tie as tie
 
@@ -25,7 +27,9 @@ returns c =
     let tries = fetch .unfetched .ensures (start .args .g .now) in
     rw (c .pause .ensures)
     (left-with _ _ _ _ _ _ _ _ _ _ _ (begun _ _ _ _ _ _ (start .pre .0) (found .find .ensures .0)) (start .pre .1) _ _ _ tries
-    (λ f. no-fetch _ _ _ _ (uncovered _ _ (found .find .result) _ (found .find .ensures .1) _ (asked .covers .ensures) (test .if1 .taken)) (subst Finished (ap (λ z. z .outcome) tries) f)))
+    (λ f. no-fetch _ _ _ _
+    (λ i at. uncovered _ _ (found .find .result) _ (found .find .ensures .1) _ (asked .covers .ensures) (test .if1 .taken) i (placed _ _ _ i at .at))
+    (subst Finished (ap (λ z. z .outcome) tries) f)))
 
 walk-requires : tie.Need-walk-requires
 walk-requires c κs =

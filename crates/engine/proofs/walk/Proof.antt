@@ -6,7 +6,8 @@ use native.Mathlib.Omega.{arith}
 use lib.ListN.{length}
 use mathlib.Core.Logic.{⊎-elim}
 use Rattle.model.specs.Pages.{pageOf}
-use Rattle.engine.proofs.Walking.{unfinished, still-on, Walking, begun, went-on, stored-on, page-most, left-between, left-with}
+use Rattle.cpu.proofs.Finishing.{unfinished}
+use Rattle.engine.proofs.Walking.{still-on, Walking, begun, went-on, stored-on, page-most, left-between, left-with}
 use Rattle.engine.proofs.walk.Statement.{statement}
 use Rattle.engine.proofs.walk.Tie as tie
 

@@ -33,8 +33,8 @@ fill-main-requires c κs =
     table-fits (a .file .now) (a .main .now) (a .swap .now) _ _ _ (sym (ap imageNumbers (told .ptl .given .1)) ∙ read .read .ensures)
     _ (k .room .ensures) (c .before .before .before .if1 .left) _ (c .before .rights .ensures .bytes)
 
-fill-swap-requires : tie.Need-fill-swap-requires
-fill-swap-requires c κs =
+fill-pages-requires : tie.Need-fill-pages-requires
+fill-pages-requires c κs =
     let filled = c .before .before .before .before in
     let test = filled .before .before .before .before in
     let k = test .before in
@@ -63,11 +63,11 @@ returns-3 c =
     let a = read .before .before .before .before .args in
     loaded (a .file .now) (a .main .now) (a .swap .now) _ _ _ (sym (ap imageNumbers (told .ptl .given .1)) ∙ read .read .ensures)
     _ (k .room .ensures) (made .before .if1 .left) _ (made .machine .ensures) _ _ _ _ (filled .before .before .rights .ensures .bytes)
-    (cut .pages .ensures .bytes) (filled .fill-main .ensures) (c .before .before .fill-swap .ensures)
+    (cut .pages .ensures .bytes) (filled .fill-main .ensures) (c .before .before .fill-pages .ensures)
 
 pub load-spec : {M : Type 1} → statement M
 load-spec =
     tie.close
     (tie.spec (λ c κs. search needs) (λ c. search needs) (λ c κs. search needs) (λ c. search needs) (λ c κs. search needs)
     (λ c κs. search needs) returns machine-requires (λ c κs. search needs) fill-main-requires (λ c κs. search needs)
-    fill-swap-requires returns-2 (λ c. search needs) (λ c. search needs) returns-3)
+    fill-pages-requires returns-2 (λ c. search needs) (λ c. search needs) returns-3)

@@ -1,7 +1,7 @@
 -- `reply`: refused, or the register is set.
 use native.Mathlib.Omega.{arith}
 use borrow.Author.Needs.{needs}
-use Rattle.host.proofs.Leans.{reply-leans}
+use Rattle.laws.proofs.Granted.{reply-leans}
 use Rattle.machine.proofs.Outcomes.{reply-refused, reply-done}
 use Rattle.machine.proofs.reply.Statement.{statement}
 use Rattle.machine.proofs.reply.Tie as tie

@@ -5,7 +5,8 @@ use native.Mathlib.Omega.{arith}
 use lib.ListN.{length-replicate}
 use lib.Seq.{length-take-le}
 use Rattle.text.proofs.Appending.{within, length-appended}
-use Rattle.series.proofs.Going.{zeros, room-kept, short}
+use Rattle.session.proofs.Roomy.{room-kept}
+use Rattle.series.proofs.Going.{zeros, short}
 use borrow.Author.Needs.{needs}
 use Rattle.series.proofs.with_file.Statement.{statement}
 use Rattle.series.proofs.with_file.Tie as tie

@@ -3,14 +3,18 @@ use Prim.Native.Nat.{_-_}
 use native.Mathlib.Omega.{arith}
 use lib.ListN.{length, drop, length-take}
 use Rattle.text.proofs.Appending.{within, length-appended}
-use Rattle.session.specs.Desk.{desk}
-use Rattle.session.proofs.Talking.{Between, at-first, line-left, ready, goes-on, ends, done}
+use Rattle.talk.specs.Stretch.{point}
+use Rattle.talk.proofs.Talking.{Between, at-first, line-left, answer-fits, goes-on, ends, done}
+use Rattle.session.specs.Desk.{desk, spoken}
+use Rattle.session.specs.Ready.{Room, Lent}
+use Rattle.session.proofs.Roomy.{room-kept}
 use Rattle.session.proofs.speak.Statement.{statement}
 use Rattle.session.proofs.speak.Tie as tie
 
 abbrev Inv-loop : tie.InvT-loop
 Inv-loop main₀ swap₀ script out₀ at₀ number₀ place₀ filled₀ main swap out at number place filled =
-    Between out₀ number₀ (desk at₀ main₀ swap₀) place₀ script out at main swap number place filled
+    Between spoken script out₀ (point number₀ (desk at₀ main₀ swap₀) place₀) out (point number (desk at main swap) place) filled
+    × Lent at × Room main swap out
 
 abbrev μ-loop : tie.MeasureT-loop
 μ-loop main₀ swap₀ script out₀ at₀ number₀ place₀ filled₀ main swap out at number place filled = length script - place
@@ -18,21 +22,21 @@ abbrev μ-loop : tie.MeasureT-loop
 loop-holds : tie.Need-loop-holds Inv-loop μ-loop
 loop-holds c =
     let start = c .before .before .before .before .before in
-    at-first (start .args .script .now) (start .pre .0) (start .pre .1) (start .pre .3)
+    (at-first spoken (start .args .script .now) _ (start .pre .0 .out-long) (start .pre .3), start .pre .1, start .pre .0)
 
 sub-loop : tie.Need-sub-loop Inv-loop μ-loop
-sub-loop c = within (c .loop .inv .text)
+sub-loop c = within (c .loop .inv .0 .text)
 
 find-requires : tie.Need-find-requires Inv-loop μ-loop
 find-requires c κs =
-    let h = line-left (c .before .loop .inv) (c .loop-test .taken) in
+    let h = line-left spoken (c .before .loop .inv .0) (c .loop-test .taken) in
     omega arith
 
 add-number : tie.Need-add-number Inv-loop μ-loop
 add-number c =
     let loop = c .before .before in
     let start = loop .before .before .before .before .before .before in
-    omega (arith, line-left (loop .loop .inv) (c .before .loop-test .taken), loop .loop .inv .numbered, start .pre .2)
+    omega (arith, line-left spoken (loop .loop .inv .0) (c .before .loop-test .taken), loop .loop .inv .0 .numbered, start .pre .2)
 
 sub-step : tie.Need-sub-step Inv-loop μ-loop
 sub-step c = omega (arith, c .before .before .find .ensures .0)
@@ -48,7 +52,11 @@ step-requires c κs =
     let find = c .before .before .before .before in
     let loop = find .before .before in
     let start = loop .before .before .before .before .before .before in (
-      ready (loop .loop .inv) (find .before .loop-test .taken),
+      record {
+        lent = loop .loop .inv .1;
+        room = loop .loop .inv .2;
+        left = answer-fits spoken (loop .loop .inv .0) (find .before .loop-test .taken);
+      },
       omega (
         arith,
         length-take (find .find .result - loop .loop .place) (drop (loop .loop .place) (start .args .script .now)),
@@ -70,49 +78,54 @@ loop-less c =
     let step = c .before .before .before .before .before .before .before .before in
     let find = step .before .before .before .before .before in
     let loop = find .before .before in
-    omega (arith, line-left (loop .loop .inv) (find .before .loop-test .taken), find .find .ensures .0)
+    omega (arith, line-left spoken (loop .loop .inv .0) (find .before .loop-test .taken), find .find .ensures .0)
 
 loop-again : tie.Need-loop-again Inv-loop μ-loop
 loop-again c =
     let step = c .before .before .before .before .before .before .before .before in
     let find = step .before .before .before .before .before in
     let loop = find .before .before in
-    goes-on (loop .loop .inv) (find .before .loop-test .taken) (find .find .result) (find .find .ensures .0) (omega arith) (omega arith)
-    (step .step .ensures) (c .if1 .taken)
+    let told = step .step .ensures in (
+      goes-on spoken (loop .loop .inv .0) (find .before .loop-test .taken) (find .find .result) (find .find .ensures .0) (told .0) (c .if1 .taken),
+      told .1,
+      room-kept (loop .loop .inv .2) (omega arith) (omega arith) (length-appended (told .0 .text)),
+    )
 
 loop-less-2 : tie.Need-loop-less-2 Inv-loop μ-loop
 loop-less-2 c =
     let step = c .before .before .before .before .before .before .before .before in
     let find = step .before .before .before .before .before in
     let loop = find .before .before in
-    omega (arith, line-left (loop .loop .inv) (find .before .loop-test .taken), find .find .ensures .0)
+    omega (arith, line-left spoken (loop .loop .inv .0) (find .before .loop-test .taken), find .find .ensures .0)
 
 loop-again-2 : tie.Need-loop-again-2 Inv-loop μ-loop
 loop-again-2 c =
     let step = c .before .before .before .before .before .before .before .before in
     let find = step .before .before .before .before .before in
     let loop = find .before .before in
-    ends (loop .loop .inv) (find .before .loop-test .taken) (find .find .result) (find .find .ensures .0) (omega arith) (omega arith)
-    (step .step .ensures) (c .if1 .left)
+    let told = step .step .ensures in (
+      ends spoken (loop .loop .inv .0) (find .before .loop-test .taken) (find .find .result) (find .find .ensures .0) (told .0) (c .if1 .left),
+      told .1,
+      room-kept (loop .loop .inv .2) (omega arith) (omega arith) (length-appended (told .0 .text)),
+    )
 
 same-length : tie.Need-same-length Inv-loop μ-loop
 same-length c =
     let start = c .before .before .before .before .before .before .before in
-    omega (arith, c .before .loop .inv .room .main-long, start .pre .0 .main-long)
+    omega (arith, c .before .loop .inv .2 .main-long, start .pre .0 .main-long)
 
 same-length-2 : tie.Need-same-length-2 Inv-loop μ-loop
 same-length-2 c =
     let start = c .before .before .before .before .before .before .before in
-    omega (arith, c .before .loop .inv .room .swap-long, start .pre .0 .swap-long)
+    omega (arith, c .before .loop .inv .2 .swap-long, start .pre .0 .swap-long)
 
 same-length-3 : tie.Need-same-length-3 Inv-loop μ-loop
-same-length-3 c = length-appended (c .before .loop .inv .text)
+same-length-3 c = length-appended (c .before .loop .inv .0 .text)
 
 returns : tie.Need-returns Inv-loop μ-loop
 returns c =
-    let start = c .before .before .before .before .before .before .before in
     let b = c .before .loop .inv in
-    ((b .lent, b .numbered), done (start .args .from) b (c .loop-test .left))
+    ((b .1, b .0 .numbered), done spoken (b .0) (c .loop-test .left))
 
 pub speak-spec : {M : Type 1} → statement M
 speak-spec =

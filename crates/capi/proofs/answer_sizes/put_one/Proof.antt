@@ -1,6 +1,6 @@
 -- `answer_sizes::put_one`: a store to the one place.
 use mathlib.Core.List.{[], _∷_}
-use Rattle.capi.proofs.Numbers.{all-set}
+use Rattle.imagewords.proofs.Numbers.{all-set}
 use borrow.Author.Needs.{needs}
 use Rattle.capi.proofs.answer_sizes.put_one.Statement.{statement}
 use Rattle.capi.proofs.answer_sizes.put_one.Tie as tie

@@ -1,6 +1,6 @@
 -- `answer_sizes::put_three`: a store to each place.
 use mathlib.Core.List.{[], _∷_}
-use Rattle.capi.proofs.Numbers.{all-set}
+use Rattle.imagewords.proofs.Numbers.{all-set}
 use borrow.Author.Needs.{needs}
 use Rattle.capi.proofs.answer_sizes.put_three.Statement.{statement}
 use Rattle.capi.proofs.answer_sizes.put_three.Tie as tie

@@ -1,6 +1,6 @@
 -- `answer_words::put_five`: a store to each place.
 use mathlib.Core.List.{[], _∷_}
-use Rattle.capi.proofs.Numbers.{all-set}
+use Rattle.imagewords.proofs.Numbers.{all-set}
 use borrow.Author.Needs.{needs}
 use Rattle.capi.proofs.answer_words.put_five.Statement.{statement}
 use Rattle.capi.proofs.answer_words.put_five.Tie as tie

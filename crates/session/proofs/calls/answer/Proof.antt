@@ -4,7 +4,8 @@ use Rattle.model.specs.State.{state}
 use Rattle.model.specs.declared.Machine.{Machine}
 use Rattle.text.specs.Reading.{bytesOf}
 use Rattle.session.specs.Answers.{answered}
-use Rattle.session.proofs.Asked.{keeps-call}
+use Rattle.script.specs.Table.{callRow}
+use Rattle.script.proofs.Asked.{keeps-known}
 use Rattle.session.proofs.Answered.{answered-as}
 use borrow.Author.Needs.{needs}
 use Rattle.session.proofs.calls.answer.Statement.{statement}
@@ -14,7 +15,7 @@ read-requires : tie.Need-read-requires
 read-requires c κs =
     let at-enum-told2 = c .before .before .before in
     let start = at-enum-told2 .before .before .before .before .before .before in
-    (start .pre .0, keeps-call (at-enum-told2 .enum-told2 .given .1) (start .args .n) _ (start .pre .2) .1)
+    (start .pre .0, keeps-known callRow (at-enum-told2 .enum-told2 .given .1) (start .args .n) _ (start .pre .2) .1)
 
 returns : tie.Need-returns
 unfolding answered
@@ -76,33 +77,12 @@ returns-6 c =
     answered-as (at-enum-told6 .enum-told6 .given .1) (a .n) (bytesOf (a .digits .now)) (state (a .m) (a .main .now) (a .swap .now))
     (record { text = at-registers .registers .ensures .1; state = ap (λ (m : Machine). state m (a .main .now) (a .swap .now)) (at-registers .registers .ensures .0) })
 
-returns-7 : tie.Need-returns-7
-unfolding answered
-returns-7 c =
-    let at-frames = c .before .before in
-    let at-enum-told7 = at-frames .before .before in
-    let start = at-enum-told7 .before .before .before .before .before .before in
-    let a = start .args in
-    answered-as (at-enum-told7 .enum-told7 .given .1) (a .n) (bytesOf (a .digits .now)) (state (a .m) (a .main .now) (a .swap .now))
-    (record { text = at-frames .frames .ensures .1; state = ap (λ (m : Machine). state m (a .main .now) (a .swap .now)) (at-frames .frames .ensures .0) })
-
-returns-8 : tie.Need-returns-8
-unfolding answered
-returns-8 c =
-    let at-sum = c .before .before in
-    let at-enum-told8 = at-sum .before .before .before .before in
-    let start = at-enum-told8 .before .before .before .before .before .before in
-    let a = start .args in
-    answered-as (at-enum-told8 .enum-told8 .given .1) (a .n) (bytesOf (a .digits .now)) (state (a .m) (a .main .now) (a .swap .now))
-    (record { text = at-sum .sum .ensures .1; state = ap (λ (m : Machine). state m (a .main .now) (a .swap .now)) (at-sum .sum .ensures .0) })
-
 pub answer-spec : {M : Type 1} → statement M
 answer-spec =
     tie.close
     (tie.spec (λ c. search needs) (λ c κs. search needs) (λ c. search needs) read-requires (λ c. search needs)
     (λ c κs. search needs) (λ c. search needs) (λ c κs. search needs) (λ c. search needs) (λ c κs. search needs)
-    (λ c. search needs) (λ c κs. search needs) (λ c. search needs) (λ c κs. search needs) (λ c. search needs)
-    (λ c κs. search needs) (λ c. search needs) (λ c. search needs) (λ c. search needs) returns (λ c. search needs)
-    (λ c. search needs) (λ c. search needs) returns-2 (λ c. search needs) (λ c. search needs) (λ c. search needs) returns-3
-    (λ c. search needs) (λ c. search needs) (λ c. search needs) returns-4 (λ c. search needs) returns-5 (λ c. search needs)
-    returns-6 (λ c. search needs) returns-7 (λ c. search needs) (λ c. search needs) (λ c. search needs) returns-8)
+    (λ c. search needs) (λ c κs. search needs) (λ c. search needs) (λ c. search needs) (λ c. search needs) returns
+    (λ c. search needs) (λ c. search needs) (λ c. search needs) returns-2 (λ c. search needs) (λ c. search needs)
+    (λ c. search needs) returns-3 (λ c. search needs) (λ c. search needs) (λ c. search needs) returns-4
+    (λ c. search needs) returns-5 (λ c. search needs) returns-6)

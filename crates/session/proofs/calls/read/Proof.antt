@@ -9,9 +9,9 @@ use Rattle.model.specs.Calls.{ReadOutcome, readCall}
 use Rattle.model.specs.Console.{orRefused}
 use Rattle.script.specs.Vocabulary.{readWord}
 use Rattle.text.proofs.Appending.{same}
-use Rattle.session.specs.Lines.{hexLine}
+use Rattle.answerlines.specs.Lines.{hexLine}
 use Rattle.session.specs.Answers.{readText}
-use Rattle.session.proofs.Asked.{take-zeros, length-zeros, part-filled, length-part, length-filled}
+use Rattle.script.proofs.Asked.{take-zeros, length-zeros, part-filled, length-part, length-filled}
 use borrow.Author.Needs.{needs}
 use Rattle.session.proofs.calls.read.Statement.{statement}
 use Rattle.session.proofs.calls.read.Tie as tie

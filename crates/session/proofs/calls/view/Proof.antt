@@ -11,7 +11,7 @@ use Rattle.model.specs.Calls.{viewCall}
 use Rattle.model.specs.Console.{orRefused}
 use Rattle.script.specs.Vocabulary.{viewWord}
 use Rattle.text.proofs.Appending.{same}
-use Rattle.session.specs.Lines.{hexLine}
+use Rattle.answerlines.specs.Lines.{hexLine}
 use Rattle.session.proofs.Viewed.{view-short}
 use borrow.Author.Needs.{needs}
 use Rattle.session.proofs.calls.view.Statement.{statement}

@@ -8,7 +8,7 @@ use Rattle.text.specs.Text.{hexOf}
 use Rattle.text.proofs.Appending.{same}
 use Rattle.session.specs.Answers.{writeText, wrote}
 use Rattle.session.proofs.Answered.{said-as}
-use Rattle.session.proofs.Asked.{digits-taken, length-digits-taken}
+use Rattle.script.proofs.Asked.{digits-taken, length-digits-taken}
 use borrow.Author.Needs.{needs}
 use Rattle.session.proofs.calls.write.Statement.{statement}
 use Rattle.session.proofs.calls.write.Tie as tie

@@ -6,7 +6,8 @@ use native.Mathlib.Omega.{arith}
 use Rattle.model.specs.declared.Machine.{Machine}
 use Rattle.text.specs.Reading.{bytesOf}
 use Rattle.session.specs.Desk.{desk, standing, changed}
-use Rattle.session.proofs.Asked.{keeps-change}
+use Rattle.script.specs.Table.{changeRow}
+use Rattle.script.proofs.Asked.{keeps-known}
 use Rattle.session.proofs.Telling.{changed-as}
 use borrow.Author.Needs.{needs}
 use Rattle.session.proofs.step.change.Statement.{statement}
@@ -16,13 +17,13 @@ put-bytes-requires : tie.Need-put-bytes-requires
 put-bytes-requires c κs =
     let at-enum-told = c .before in
     let start = at-enum-told .before .before .before .before .before .before in
-    omega (arith, start .pre .1, keeps-change (at-enum-told .enum-told .given .1) (start .args .n) _ (start .pre .3))
+    omega (arith, start .pre .1, keeps-known changeRow (at-enum-told .enum-told .given .1) (start .args .n) _ (start .pre .3))
 
 put-bytes-requires-2 : tie.Need-put-bytes-requires-2
 put-bytes-requires-2 c κs =
     let at-enum-told2 = c .before in
     let start = at-enum-told2 .before .before .before .before .before .before in
-    omega (arith, start .pre .2, keeps-change (at-enum-told2 .enum-told2 .given .1) (start .args .n) _ (start .pre .3))
+    omega (arith, start .pre .2, keeps-known changeRow (at-enum-told2 .enum-told2 .given .1) (start .args .n) _ (start .pre .3))
 
 returns : tie.Need-returns
 unfolding changed
@@ -70,14 +71,14 @@ returns-4 c =
     let a = start .args in
     let d = desk (a .at) (a .main .now) (a .swap .now) in (
       changed-as (at-enum-told4 .enum-told4 .given .1) (a .n) (bytesOf (a .digits .now)) d refl,
-      let k = keeps-change (at-enum-told4 .enum-told4 .given .1) (a .n) _ (start .pre .3) in record { main-fits = k .0; swap-fits = k .1 },
+      let k = keeps-known changeRow (at-enum-told4 .enum-told4 .given .1) (a .n) _ (start .pre .3) in record { main-fits = k .0; swap-fits = k .1 },
     )
 
 set-spare-requires : tie.Need-set-spare-requires
 set-spare-requires c κs =
     let at-enum-told5 = c .before .before in
     let start = at-enum-told5 .before .before .before .before .before .before in
-    let k = keeps-change (at-enum-told5 .enum-told5 .given .1) (start .args .n) _ (start .pre .3) in
+    let k = keeps-known changeRow (at-enum-told5 .enum-told5 .given .1) (start .args .n) _ (start .pre .3) in
     (omega (arith, start .pre .0 .main-fits, start .pre .1), k .1)
 
 returns-5 : tie.Need-returns-5

@@ -7,10 +7,10 @@ use Rattle.script.specs.Table.{callRow, changeRow}
 use Rattle.script.proofs.Within.{line-known}
 use Rattle.text.specs.Text.{hexOf}
 use Rattle.text.proofs.Appending.{same}
-use Rattle.session.specs.Lines.{wordLine}
-use Rattle.session.proofs.Asked.{short-rest, rest-keeps, lent-long}
+use Rattle.answerlines.specs.Lines.{wordLine}
+use Rattle.script.proofs.Asked.{short-rest, rest-keeps, lent-long}
 use Rattle.session.proofs.Spelled.{word-short, word-spelled-at}
-use Rattle.session.proofs.Telling.{call-told, changed-told, bad-told}
+use Rattle.session.proofs.Telling.{call-told, show-told, changed-told, bad-told}
 use borrow.Author.Needs.{needs}
 use Rattle.session.proofs.step.step.Statement.{statement}
 use Rattle.session.proofs.step.step.Tie as tie
@@ -52,6 +52,20 @@ answer-requires c κs =
     let g = at-c .c .given in
     let n = g .0 .1 .0 in
     (start .pre .0 .left, short-rest l (n .hex) (start .pre .1), rest-keeps l (n .hex) (callRow (g .0 .0)) n (line-known l (at-parse .parse .ensures) (g .1) .1))
+
+slice-aggregate-show : tie.Need-slice-aggregate-show
+slice-aggregate-show c =
+    let at-parse = c .before .before .before .before in
+    let start = at-parse .before .before .before .before .before .before in
+    let a = start .args in
+    lent-long (a .at .main) (a .main .now) 262144 (start .pre .0 .lent .main-fits) (start .pre .0 .room .main-long)
+
+slice-aggregate-show-2 : tie.Need-slice-aggregate-show-2
+slice-aggregate-show-2 c =
+    let at-parse = c .before .before .before .before .before in
+    let start = at-parse .before .before .before .before .before .before in
+    let a = start .args in
+    lent-long (a .at .swap) (a .swap .now) 327680 (start .pre .0 .lent .swap-fits) (start .pre .0 .room .swap-long)
 
 sub-change : tie.Need-sub-change
 sub-change c =
@@ -96,8 +110,8 @@ hex-line-requires c κs =
     let word = word-spelled-at (start .args .line .now) (at-parse .parse .ensures) (g .0 .0) (g .0 .1 .0) (g .1) (at-find .find .result) (at-find .find .ensures .0) in
     omega (arith, ap length word, word-short (g .0 .0), start .pre .0 .left)
 
-cast-t52 : tie.Need-cast-t52
-cast-t52 c =
+cast-t60 : tie.Need-cast-t60
+cast-t60 c =
     let at-column = c .before in
     let at-parse = at-column .before .before in
     let start = at-parse .before .before .before .before .before .before in
@@ -116,8 +130,19 @@ returns c =
     (c .told .ensures) (at-answer .answer .ensures) (start .pre .0 .lent)
 
 returns-2 : tie.Need-returns-2
-unfolding hexOf
 returns-2 c =
+    let at-show = c .before .before .before in
+    let at-x = at-show .before .before .before .before .before in
+    let at-parse = at-x .before .before in
+    let start = at-parse .before .before .before .before .before .before in
+    let a = start .args in
+    let g = at-x .x .given in
+    show-told (a .number) (a .line .now) (a .at) (a .main .now) (a .swap .now) (at-parse .parse .ensures) (g .0 .0) (g .1)
+    (c .told2 .ensures) (at-show .show .ensures) (start .pre .0 .lent)
+
+returns-3 : tie.Need-returns-3
+unfolding hexOf
+returns-3 c =
     let at-hex-line = c .before .before in
     let at-find = at-hex-line .before .before .before .before in
     let at-change = at-find .before .before .before .before .before in
@@ -133,8 +158,8 @@ returns-2 c =
       left .1,
     )
 
-returns-3 : tie.Need-returns-3
-returns-3 c =
+returns-4 : tie.Need-returns-4
+returns-4 c =
     let at-numbers-line = c .before .before .before in
     let at-column = at-numbers-line .before .before .before .before .before .before in
     let at-parse = at-column .before .before in
@@ -142,15 +167,17 @@ returns-3 c =
     let a = start .args in
     let g = at-column .column .given in
     bad-told (a .number) (a .line .now) (a .at) (a .main .now) (a .swap .now) (at-parse .parse .ensures) (g .0 .0) (g .1)
-    (c .told2 .ensures) (at-numbers-line .numbers-line .ensures) (start .pre .0 .lent)
+    (c .told3 .ensures) (at-numbers-line .numbers-line .ensures) (start .pre .0 .lent)
 
 pub step-spec : {M : Type 1} → statement M
 step-spec =
     tie.close
-    (tie.spec (λ c κs. search needs) (λ c. search needs) sub-digits part-digits-start (λ c. search needs) (λ c. search needs)
-    slice-aggregate-answer (λ c. search needs) slice-aggregate-answer-2 answer-requires (λ c κs. search needs)
-    (λ c. search needs) sub-change part-change-start (λ c. search needs) change-requires (λ c κs. search needs)
-    slice-aggregate-hex-line (λ c. search needs) hex-line-requires (λ c. search needs) cast-t52 (λ c. search needs)
-    (λ c. search needs) (λ c. search needs) (λ c κs. search needs) (λ c κs. search needs) (λ c. search needs)
-    (λ c. search needs) (λ c. search needs) returns (λ c. search needs) (λ c. search needs) (λ c. search needs) returns-2
-    (λ c. search needs) returns-3)
+    (tie.spec (λ c κs. search needs) (λ c. search needs) sub-digits part-digits-start (λ c. search needs)
+    (λ c. search needs) slice-aggregate-answer (λ c. search needs) slice-aggregate-answer-2 answer-requires
+    (λ c κs. search needs) (λ c. search needs) (λ c. search needs) slice-aggregate-show (λ c. search needs)
+    slice-aggregate-show-2 (λ c κs. search needs) (λ c κs. search needs) (λ c. search needs) sub-change part-change-start
+    (λ c. search needs) change-requires (λ c κs. search needs) slice-aggregate-hex-line (λ c. search needs)
+    hex-line-requires (λ c. search needs) cast-t60 (λ c. search needs) (λ c. search needs) (λ c. search needs)
+    (λ c κs. search needs) (λ c κs. search needs) (λ c. search needs) (λ c. search needs) (λ c. search needs) returns
+    (λ c. search needs) (λ c. search needs) (λ c. search needs) returns-2 (λ c. search needs) (λ c. search needs)
+    (λ c. search needs) returns-3 (λ c. search needs) returns-4)

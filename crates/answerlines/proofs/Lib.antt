@@ -1,0 +1,4 @@
+-- The laws of the lines.
+mod Mixing
+pub mod Spaced
+pub mod Refused

@@ -1,0 +1,2 @@
+-- Laws of an answer's words.
+pub mod Numbers

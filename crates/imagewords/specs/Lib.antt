@@ -1,0 +1,2 @@
+-- What the contract of the reader's call names.
+pub mod Image

@@ -1,0 +1,3 @@
+-- What the contracts of the exported calls name.
+pub mod Calls
+pub mod Promises

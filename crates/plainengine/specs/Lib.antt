@@ -1,0 +1,2 @@
+-- What the contract of the run names.
+pub mod Engine

@@ -1,0 +1,3 @@
+-- The laws.
+pub mod Granted
+pub mod Numbers

@@ -1,0 +1,2 @@
+-- What the plain engine's checks accept, as named facts.
+pub mod Good

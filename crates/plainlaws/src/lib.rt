@@ -1,0 +1,1 @@
+// Theorems about the plain engine's definitions. They stand in proofs/.

@@ -1,0 +1,2 @@
+-- What the contracts of loading name.
+pub mod Fresh

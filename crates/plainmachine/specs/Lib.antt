@@ -1,0 +1,2 @@
+-- What the contracts of the transfers name.
+pub mod Within

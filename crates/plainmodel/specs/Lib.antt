@@ -1,0 +1,6 @@
+-- The plain engine's definitions, each module over those before it.
+pub mod State
+pub mod Calls
+pub mod Load
+pub mod Promises
+pub mod Series

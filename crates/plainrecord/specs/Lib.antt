@@ -1,0 +1,2 @@
+-- The plain engine's record as words.
+pub mod Words

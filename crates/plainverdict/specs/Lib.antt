@@ -1,0 +1,2 @@
+-- What the contracts of the inner tests name.
+pub mod Handed

@@ -1,0 +1,11 @@
+-- The buffers stay as long as they were.
+use mathlib.Core.Path.{_≡_, _∙_}
+use mathlib.Core.List.{List}
+use Prim.Native.Nat.{ℕ}
+use native.Mathlib.Omega.{arith}
+use lib.ListN.{length}
+use Rattle.session.specs.Ready.{Room}
+
+pub room-kept : {main swap out main′ swap′ out′ : List ℕ} → Room main swap out → length main′ ≡ length main → length swap′ ≡ length swap
+    → length out′ ≡ length out → Room main′ swap′ out′
+room-kept r m s o = record { main-long = m ∙ r .main-long; swap-long = s ∙ r .swap-long; out-long = omega (arith, r .out-long) }

@@ -1,0 +1,3 @@
+-- The laws of a script.
+pub mod Talking
+pub mod Whole

@@ -1,0 +1,3 @@
+-- What is said to a script.
+pub mod Script
+pub mod Stretch

@@ -6,7 +6,6 @@ use text::reading::Part;
 ghost use mathlib.Core.Path.{_≡_};
 ghost use Prim.Native.Nat.{_≤_};
 ghost use lib.ListN.{length};
-ghost use Rattle.io.specs.Counts.{Counts};
 ghost use Rattle.talk.specs.Script.{linesOf, talk};
 ghost use Rattle.session.specs.Desk.{desk, spoken};
 ghost use Rattle.session.specs.Ready.{Lent, Room};
@@ -60,15 +59,6 @@ fn with_file(file: &[u8], pages: u32) {
     }
 }
 
-// The bytes behind the first ones, which are read already: all that are read now.
-fn read_on(file: i32, bytes: &mut [u8], first: usize) -> usize
-    requires { ⌜ first ≤ length (now bytes) ⌝ }
-    ensures { λ r. ⌜ Counts r (now (bytes .exit)) ⌝ }
-{
-    let more = io::read_full(file, &mut bytes[first..]);
-    first + more
-}
-
 // A byte more than an image may have is read, so that a longer file is known.
 fn with_descriptor(file: i32, pages: u32) {
     let mut bytes = [0; 263257];
@@ -77,7 +67,7 @@ fn with_descriptor(file: i32, pages: u32) {
         return os::fail(b"series: the image");
     }
     let first = io::count(got, &bytes);
-    let count = read_on(file, &mut bytes, first);
+    let count = files::read_on(file, &mut bytes, first);
     with_file(&bytes[..count], pages)
 }
 

@@ -1,9 +1,9 @@
 -- The laws of the lines, the calls and the script.
 mod Viewed
-mod Answered
+pub mod Answered
 mod Spelled
 mod Sparing
 mod Telling
 pub mod Roomy
-mod Begun
+pub mod Begun
 pub mod Whole

@@ -23,7 +23,7 @@ ghost use Rattle.script.specs.Keeping.{Keeps};
 ghost use Rattle.session.specs.Answers as answers;
 
 // The record afterwards, and the place behind the line.
-pub(crate) struct Done {
+pub struct Done {
     pub machine: Machine,
     pub filled: usize,
 }
@@ -54,8 +54,8 @@ fn run(m: Machine, main: &mut [u8], swap: &mut [u8], limit: u32, out: &mut [u8],
 }
 
 // `read VA LEN`
-fn read(m: Machine, main: &[u8], swap: &[u8], n: Numbers, out: &mut [u8], at: usize) -> Done
-    requires { ⌜ (at + 9000 ≤ length (now out)) × (n .second ≤ 512) ⌝ }
+pub fn read(m: Machine, main: &[u8], swap: &[u8], n: Numbers, out: &mut [u8], at: usize) -> Done
+    requires { ⌜ (at + 8900 ≤ length (now out)) × (n .second ≤ 512) ⌝ }
     ensures { λ r. ⌜ (r .machine ≡ m) × Appended (now (out .entry)) at (now (out .exit)) (r .filled)
         (answers.readText (calls.readCall (state m (now (main .entry)) (now (swap .entry))) (n .first) (replicate (n .second) 0))) ⌝ }
 {
@@ -66,7 +66,7 @@ fn read(m: Machine, main: &[u8], swap: &[u8], n: Numbers, out: &mut [u8], at: us
 }
 
 // `write VA HEX`
-fn write(
+pub fn write(
     m: Machine,
     main: &mut [u8],
     swap: &mut [u8],
@@ -89,8 +89,15 @@ fn write(
 }
 
 // `view PAGE`
-fn view<'a>(m: Machine, main: &'a [u8], swap: &'a [u8], p: u32, out: &mut [u8], at: usize) -> Done
-    requires { ⌜ at + 9000 ≤ length (now out) ⌝ }
+pub fn view<'a>(
+    m: Machine,
+    main: &'a [u8],
+    swap: &'a [u8],
+    p: u32,
+    out: &mut [u8],
+    at: usize,
+) -> Done
+    requires { ⌜ at + 8900 ≤ length (now out) ⌝ }
     ensures { λ r. ⌜ (r .machine ≡ m) × Appended (now (out .entry)) at (now (out .exit)) (r .filled)
         (answers.viewText (calls.viewCall (state m (now (main .entry)) (now (swap .entry))) (virtual p))) ⌝ }
 {
@@ -100,7 +107,7 @@ fn view<'a>(m: Machine, main: &'a [u8], swap: &'a [u8], p: u32, out: &mut [u8], 
 }
 
 // `reply I V`
-fn reply(m: Machine, n: Numbers, out: &mut [u8], at: usize) -> Done
+pub fn reply(m: Machine, n: Numbers, out: &mut [u8], at: usize) -> Done
     requires { ⌜ at + 128 ≤ length (now out) ⌝ }
     ensures { λ r. ⌜ (r .machine ≡ calls.replyCall m (n .first) (n .second) .machine)
         × Appended (now (out .entry)) at (now (out .exit)) (r .filled) (answers.replyText (calls.replyCall m (n .first) (n .second))) ⌝ }
@@ -112,7 +119,7 @@ fn reply(m: Machine, n: Numbers, out: &mut [u8], at: usize) -> Done
 }
 
 // `registers`
-fn registers(m: Machine, out: &mut [u8], at: usize) -> Done
+pub fn registers(m: Machine, out: &mut [u8], at: usize) -> Done
     requires { ⌜ at + 512 ≤ length (now out) ⌝ }
     ensures { λ r. ⌜ (r .machine ≡ m) × Appended (now (out .entry)) at (now (out .exit)) (r .filled) (answers.registersText m) ⌝ }
 {
@@ -121,7 +128,7 @@ fn registers(m: Machine, out: &mut [u8], at: usize) -> Done
     left(m, registers_line(out, at, pcs, gpr))
 }
 
-fn left(m: Machine, filled: usize) -> Done
+pub fn left(m: Machine, filled: usize) -> Done
     ensures { λ r. ⌜ (r .machine ≡ m) × (r .filled ≡ filled) ⌝ }
 {
     Done {
@@ -140,7 +147,7 @@ pub(crate) fn answer(
     out: &mut [u8],
     at: usize,
 ) -> Done
-    requires { ⌜ (at + 9000 ≤ length (now out)) × (length (now digits) ≤ 65536) × Keeps (callRow call) n (length (now digits) / 2) ⌝ }
+    requires { ⌜ (at + 8900 ≤ length (now out)) × (length (now digits) ≤ 65536) × Keeps (callRow call) n (length (now digits) / 2) ⌝ }
     ensures { λ r. ⌜ answers.Says (now (out .entry)) at (now (out .exit)) (r .filled) (state (r .machine) (now (main .exit)) (now (swap .exit)))
         (answers.answered call n (bytesOf (now (digits .entry))) (state m (now (main .entry)) (now (swap .entry)))) ⌝ }
 {

@@ -1,6 +1,6 @@
 // A session of `series`: the image is loaded, then every line of the script is done in turn. What is said goes into a lent buffer, a
 // stretch at a time; the program writes it out.
-mod calls;
+pub mod calls;
 mod shows;
 mod spare;
 mod step;

@@ -1,3 +1,4 @@
 -- The laws of a script.
 pub mod Talking
+pub mod Going
 pub mod Whole

@@ -8,7 +8,7 @@ use Prim.Native.Nat.{ℕ, suc, _+_, _-_, _≤_, _<_}
 use native.Mathlib.Numerals.{add-one}
 use native.Mathlib.Omega.{arith}
 use lib.Dec.{eqb, ltb, leb}
-use lib.ListN.{length, take, drop, getD, drop-of-length-le}
+use lib.ListN.{length, take, drop, getD}
 use lib.Seq.{take-length, drop-length, drop-cons, drop-drop}
 use borrow.Author.Tests.{le-leb, ltb-true, ltb-false, leb-true}
 use Rattle.bytes.specs.Bytes.{slice, indexAfter, indexOf}
@@ -81,11 +81,6 @@ module _ {D : Type 0} (spoken : Speech D) where
     talk-ends : spoken (n + 1) l d .goesOn ≡ false → talk spoken n d (l ∷ ls) ≡ first-then []
     unfolding talk
     talk-ends h = let k : spoken (suc n) l d .goesOn ≡ false = rw (add-one n) at h in rw (add-one n, k, append-nil (spoken (suc n) l d .text))
-
-  -- at the script's end nothing is to be said any more
-  pub at-end : (script : List ℕ) (q : Point D) → length script ≤ q .place → onFrom spoken script q .desk ≡ q .desk
-  unfolding talk linesOf
-  at-end script q h = rw (drop-of-length-le script h)
 
   -- ---- what holds between two lines of a stretch
   pub record Between (script before : List ℕ) (from : Point D) (out : List ℕ) (q : Point D) (filled : ℕ) : Type 0 where

@@ -28,6 +28,12 @@ use Rattle.text.specs.Text.{Appended}
 use Rattle.script.specs.Grammar.{lineOf}
 use Rattle.session.specs.Desk.{Desk}
 use Rattle.session.specs.declared.Told.{Told}
+use Rattle.plainsession.specs.Grammar as plain-grammar
+use Rattle.plainsession.specs.Desk.{Desk as PlainDesk}
+use Rattle.plainsession.specs.declared.Told.{Told as PlainTold}
+use Rattle.comparison.specs.Desk.{Desk as BothDesk}
+use Rattle.comparison.specs.declared.Standing.{Standing as BothStanding}
+use Rattle.comparison.specs.declared.Told.{Told as BothTold}
 use Rattle.workshop.specs.declared.Made.{Made}
 
 -- ---- two that make one outcome
@@ -216,6 +222,18 @@ told-same r r′ s f g =
     ap₂ {C = Told} (λ x y. record { standing = x; filled = y; «goes_on» = r .«goes_on» }) s f
     ∙ ap {B = Told} (λ z. record { standing = r′ .standing; filled = r′ .filled; «goes_on» = z }) g
 
+plain-told-same : (r r′ : PlainTold) → r .standing ≡ r′ .standing → r .filled ≡ r′ .filled → r .«goes_on» ≡ r′ .«goes_on» → r ≡ r′
+plain-told-same r r′ s f g =
+    ap₂ {C = PlainTold} (λ x y. record { standing = x; filled = y; «goes_on» = r .«goes_on» }) s f
+    ∙ ap {B = PlainTold} (λ z. record { standing = r′ .standing; filled = r′ .filled; «goes_on» = z }) g
+
+-- the desk tells all that stands
+abbrev standingOf : BothDesk → BothStanding
+standingOf d = record { machine = d .machines .paged .machine; plain = d .machines .plain .plain; lines = d .lines; «goes_on» = d .goesOn }
+
+both-told-same : (r r′ : BothTold) → r .standing ≡ r′ .standing → r .filled ≡ r′ .filled → r ≡ r′
+both-told-same r r′ s f = ap₂ {C = BothTold} (λ x y. record { standing = x; filled = y }) s f
+
 -- n bytes of the output o are written, and the line x is said
 made-same : (n : ℕ) (o said x : List ℕ)
     → NoTwoLent (λ (r : Made) after heard. (r .written ≡ n) × (after ≡ o) × Appended said 0 heard (r .said) x)
@@ -238,6 +256,23 @@ program-calls = record {
         told-same r r′ (ap (λ (x : Desk). x .standing) d) (same-place (p .text) (q .text)) (p .goes ∙ sym (q .goes)),
         ap (λ (x : Desk). x .main) d,
         ap (λ (x : Desk). x .swap) d,
+        same-buffer (p .text) (q .text),
+      );
+  plain-parse = λ line. same (plain-grammar.lineOf line);
+  plain-begin = λ file memory rights out r r′ memory₁ memory₁′ rights₁ rights₁′ after after′ p q.
+      let d = p .desk-is ∙ sym (q .desk-is) in (
+        plain-told-same r r′ (ap (λ (x : PlainDesk). x .standing) d) (same-place (p .text) (q .text)) (p .goes ∙ sym (q .goes)),
+        ap (λ (x : PlainDesk). x .memory) d,
+        ap (λ (x : PlainDesk). x .rights) d,
+        same-buffer (p .text) (q .text),
+      );
+  compare-begin = λ file main swap bytes rights out r r′ main₁ main₁′ swap₁ swap₁′ bytes₁ bytes₁′ rights₁ rights₁′ after after′ p q.
+      let d = p .desk-is ∙ sym (q .desk-is) in (
+        both-told-same r r′ (ap standingOf d) (same-place (p .text) (q .text)),
+        ap (λ (x : BothDesk). x .machines .paged .memory .main) d,
+        ap (λ (x : BothDesk). x .machines .paged .memory .swap) d,
+        ap (λ (x : BothDesk). x .machines .plain .bytes) d,
+        ap (λ (x : BothDesk). x .machines .plain .rights) d,
         same-buffer (p .text) (q .text),
       );
   asm = λ input out said r r′ after after′ heard heard′ p q.

@@ -33,6 +33,10 @@ use Rattle.program.specs.Promises.{ConsolePromise}
 use Rattle.script.specs.Promises.{ParsePromise}
 use Rattle.session.specs.Promises.{BeginPromise}
 use Rattle.session.specs.declared.Told.{Told}
+use Rattle.plainsession.specs.Promises as plain-session
+use Rattle.plainsession.specs.declared.Told.{Told as PlainTold}
+use Rattle.comparison.specs.Promises as comparison
+use Rattle.comparison.specs.declared.Told.{Told as BothTold}
 use Rattle.workshop.specs.Programs as workshop
 
 -- ---- what fits a promise is one: the result alone; the result and a lent slice at exit; the result and two, such as both memories, at exit
@@ -136,6 +140,16 @@ pub record ProgramCalls : Type 0 where
   pub begin : (file : List ℕ) (pages : ℕ) (main swap out : List ℕ) (r r′ : Told) (main₁ main₁′ swap₁ swap₁′ after after′ : List ℕ)
       → BeginPromise file pages main swap out r main₁ swap₁ after → BeginPromise file pages main swap out r′ main₁′ swap₁′ after′
       → (r ≡ r′) × (main₁ ≡ main₁′) × (swap₁ ≡ swap₁′) × (after ≡ after′)
+  pub plain-parse : (line : List ℕ) → NoTwo (plain-session.ParsePromise line)
+  pub plain-begin : (file memory rights out : List ℕ) (r r′ : PlainTold) (memory₁ memory₁′ rights₁ rights₁′ after after′ : List ℕ)
+      → plain-session.BeginPromise file memory rights out r memory₁ rights₁ after
+      → plain-session.BeginPromise file memory rights out r′ memory₁′ rights₁′ after′
+      → (r ≡ r′) × (memory₁ ≡ memory₁′) × (rights₁ ≡ rights₁′) × (after ≡ after′)
+  pub compare-begin : (file main swap bytes rights out : List ℕ) (r r′ : BothTold)
+      (main₁ main₁′ swap₁ swap₁′ bytes₁ bytes₁′ rights₁ rights₁′ after after′ : List ℕ)
+      → comparison.BeginPromise file main swap bytes rights out r main₁ swap₁ bytes₁ rights₁ after
+      → comparison.BeginPromise file main swap bytes rights out r′ main₁′ swap₁′ bytes₁′ rights₁′ after′
+      → (r ≡ r′) × (main₁ ≡ main₁′) × (swap₁ ≡ swap₁′) × (bytes₁ ≡ bytes₁′) × (rights₁ ≡ rights₁′) × (after ≡ after′)
   pub asm : (input out said : List ℕ) → NoTwoLent (workshop.AsmPromise input out said)
   pub list : (input out said : List ℕ) → NoTwoLent (workshop.ListPromise input out said)
 

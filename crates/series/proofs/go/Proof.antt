@@ -1,38 +1,35 @@
 -- `go`: stretch after stretch, to the script's end.
-use mathlib.Core.Path.{refl, sym}
+use mathlib.Core.Path.{_≡_, refl, sym, _∙_}
 use Prim.Native.Nat.{_-_, _<_}
 use native.Mathlib.Omega.{arith}
 use lib.ListN.{length}
 use lib.Seq.{length-take-le}
 use Rattle.text.proofs.Appending.{within, length-appended}
-use Rattle.series.proofs.Going.{Going, again, at-end}
+use Rattle.talk.proofs.Going.{Going, starts, again, at-end}
+use Rattle.session.specs.Desk.{desk, spoken}
+use Rattle.session.specs.Ready.{Room, Lent}
+use Rattle.session.specs.Script.{reached}
+use Rattle.session.proofs.Roomy.{room-kept}
 use borrow.Author.Needs.{needs}
 use Rattle.series.proofs.go.Statement.{statement}
 use Rattle.series.proofs.go.Tie as tie
 
 abbrev Inv-loop : tie.InvT-loop
-Inv-loop main₀ swap₀ script out₀ at₀ main swap out at = Going main₀ swap₀ script out₀ at₀ main swap out at
+Inv-loop main₀ swap₀ script out₀ at₀ main swap out at =
+    Going spoken script (desk (at₀ .standing) main₀ swap₀) (reached at main swap) × Lent (at .standing) × Room main swap out
+    × (length main ≡ length main₀) × (length swap ≡ length swap₀) × (length out ≡ length out₀)
 
 abbrev μ-loop : tie.MeasureT-loop
 μ-loop main₀ swap₀ script out₀ at₀ main swap out at = length script - at .place
 
 loop-holds : tie.Need-loop-holds Inv-loop μ-loop
-loop-holds c =
-    let s = c .before .before .before .before in
-    record {
-      talks = refl;
-      lent = s .pre .1;
-      room = s .pre .0;
-      numbered = omega arith;
-      main-as = refl;
-      swap-as = refl;
-      out-as = refl;
-    }
+loop-holds c = let s = c .before .before .before .before in (starts spoken (s .args .script .now) _, s .pre .1, s .pre .0, refl, refl, refl)
 
 speak-requires : tie.Need-speak-requires Inv-loop μ-loop
 speak-requires c κs =
-    let g = c .before .before .before .before .before .loop .inv in
-    (g .room, g .lent, c .before .before .before .before .before .before .before .before .before .before .pre .2, g .numbered)
+    let v = c .before .before .before .before .before in
+    let g = v .loop .inv in
+    (g .2, g .1, v .before .before .before .before .before .pre .2, g .0 .numbered)
 
 slice-reshare-prefix-write-all : tie.Need-slice-reshare-prefix-write-all Inv-loop μ-loop
 slice-reshare-prefix-write-all c = within (c .before .before .before .before .before .before .speak .ensures .1 .text)
@@ -43,28 +40,38 @@ slice-aggregate-write-all c =
 
 loop-less : tie.Need-loop-less Inv-loop μ-loop
 loop-less c =
-    let r = c .before .before .before .before .before .before .before .before .speak in
-    let test = c .before .before .before .before .before .before .before .before .before .before .before .before in
+    let at-speak = c .before .before .before .before .before .before .before .before in
+    let r = at-speak .speak in
+    let test = at-speak .before .before .before .before in
     let at = test .before .before .loop .at in
     let on : at .place < r .result .place = r .ensures .1 .moves (test .if1 .taken) in
     omega (arith, on, test .if1 .taken)
 
 loop-again : tie.Need-loop-again Inv-loop μ-loop
 loop-again c =
-    let r = c .before .before .before .before .before .before .before .before .speak in
-    again (c .before .before .before .before .before .before .before .before .before .before .before .before .before .before .loop .inv) (r .ensures .1) (r .ensures .0 .0) (r .ensures .0 .1) (r .kept .1 .0) (r .kept .1 .1 .0) (length-appended (r .ensures .1 .text))
+    let at-speak = c .before .before .before .before .before .before .before .before in
+    let r = at-speak .speak in
+    let g = at-speak .before .before .before .before .before .before .loop .inv in
+    let said = length-appended (r .ensures .1 .text) in (
+      again spoken _ _ (g .0) (r .ensures .1) (r .ensures .0 .1),
+      r .ensures .0 .0,
+      room-kept (g .2) (r .kept .1 .0) (r .kept .1 .1 .0) said,
+      r .kept .1 .0 ∙ g .3,
+      r .kept .1 .1 .0 ∙ g .4,
+      said ∙ g .5,
+    )
 
 same-length : tie.Need-same-length Inv-loop μ-loop
-same-length c = c .before .before .before .loop .inv .main-as
+same-length c = c .before .before .before .loop .inv .3
 
 same-length-2 : tie.Need-same-length-2 Inv-loop μ-loop
-same-length-2 c = c .before .before .before .loop .inv .swap-as
+same-length-2 c = c .before .before .before .loop .inv .4
 
 same-length-3 : tie.Need-same-length-3 Inv-loop μ-loop
-same-length-3 c = c .before .before .before .loop .inv .out-as
+same-length-3 c = c .before .before .before .loop .inv .5
 
 returns : tie.Need-returns Inv-loop μ-loop
-returns c = at-end (c .before .before .before .loop .inv) (omega arith)
+returns c = at-end spoken _ _ (c .before .before .before .loop .inv .0) (omega arith)
 
 pub go-spec : {M : Type 1} → statement M
 go-spec =

@@ -1,12 +1,9 @@
 -- `with_file`: the buffers have their lengths, and the script is short enough.
-use mathlib.Core.Path.{sym, _∙_}
-use Prim.Native.Nat.{ℕ}
-use native.Mathlib.Omega.{arith}
-use lib.ListN.{length-replicate}
+use mathlib.Core.Path.{sym}
 use lib.Seq.{length-take-le}
 use Rattle.text.proofs.Appending.{within, length-appended}
-use Rattle.session.proofs.Roomy.{room-kept}
-use Rattle.series.proofs.Going.{zeros, short}
+use Rattle.talk.proofs.Going.{short}
+use Rattle.session.proofs.Roomy.{zeros, room-kept}
 use borrow.Author.Needs.{needs}
 use Rattle.series.proofs.with_file.Statement.{statement}
 use Rattle.series.proofs.with_file.Tie as tie

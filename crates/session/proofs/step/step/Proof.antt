@@ -51,7 +51,7 @@ answer-requires c κs =
     let l = start .args .line .now in
     let g = at-c .c .given in
     let n = g .0 .1 .0 in
-    (start .pre .0 .left, short-rest l (n .hex) (start .pre .1), rest-keeps l (n .hex) (callRow (g .0 .0)) n (line-known l (at-parse .parse .ensures) (g .1) .1))
+    (omega (arith, start .pre .0 .left), short-rest l (n .hex) (start .pre .1), rest-keeps l (n .hex) (callRow (g .0 .0)) n (line-known l (at-parse .parse .ensures) (g .1) .1))
 
 slice-aggregate-show : tie.Need-slice-aggregate-show
 slice-aggregate-show c =

@@ -6,8 +6,8 @@ use lib.ListN.{length, drop, length-drop}
 use lib.Seq.{length-take-le}
 use borrow.Rule.Slice.PartMut.{putMid}
 use borrow.Author.Needs.{needs}
-use Rattle.series.proofs.read_on.Statement.{statement}
-use Rattle.series.proofs.read_on.Tie as tie
+use Rattle.files.proofs.read_on.Statement.{statement}
+use Rattle.files.proofs.read_on.Tie as tie
 
 returns : tie.Need-returns
 returns c =

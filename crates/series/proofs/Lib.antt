@@ -1,2 +1,0 @@
--- The laws of the loop over a script.
-mod Going

@@ -24,5 +24,5 @@ module _ (whole r : Bor (List ℕ)) (p : Part) (block : r.ref_ptr.0 ≡ whole.re
         own = b ∙ take_own n (drop i whole.now) ∙ ap (λ l. take (length l) (drop i whole.now)) (sym b);
       })
 
-  pub cut_none : no_part ≡ p → r.ref_ptr.1 ≡ whole.ptr.1 → r.now ≡ [] → PartOf whole p r
+  pub cut_none : no_part ≡ p → r.ref_ptr.1 ≡ whole.ref_ptr.1 → r.now ≡ [] → PartOf whole p r
   cut_none is begins e = cut 0 0 is (begins ∙ sym (add-zero _)) e

@@ -12,7 +12,7 @@ use model::Refusal;
 use notation::{AssembleAnswer, Parsed};
 
 // What the first pass finds: how many lines there are, all of them good; or the first bad one.
-#[derive(Drop)]
+#[derive(Clone, Copy)]
 enum Checked {
     Good {
         lines: usize,

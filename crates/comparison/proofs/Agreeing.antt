@@ -1,6 +1,6 @@
 -- Whether both machines agree, at each way out: the registers differ, DPC or PC' does, or it is the memory that tells.
 use mathlib.Core.Path.{◌≡◌, sym, ◌∙◌}
-use mathlib.Core.Bool.{true, false, and_true}
+use mathlib.Core.Bool.{true, false, and-true}
 use mathlib.Core.List.{List}
 use Prim.Native.Nat.{ℕ}
 use borrow.Author.Tests.{eq-eqb, ne_eqb}
@@ -28,4 +28,4 @@ module _ (p : State) (m : Plain) (bytes : List ℕ) where
   pub memory_tells : same p.machine.gpr m.gpr ≡ true → p.machine.pcs.dpc ≡ m.pcs.dpc → p.machine.pcs.next ≡ m.pcs.next
       → same (flat_bytes p.machine.shape p.memory) bytes ≡ agreeing p m bytes
   unfolding agreeing passes
-  memory_tells e d n = rw (e, eq-eqb _ _ d, eq-eqb _ _ n) (sym (and_true (same (flat_bytes p.machine.shape p.memory) bytes)))
+  memory_tells e d n = rw (e, eq-eqb _ _ d, eq-eqb _ _ n) (sym (and-true (same (flat_bytes p.machine.shape p.memory) bytes)))

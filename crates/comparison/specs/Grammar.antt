@@ -1,6 +1,6 @@
 -- The grammar of a script of `compare`: a call, with the parts that stand behind it, "and no other" word.
 use Rattle.std.specs.Prelude.{List, ℕ, take}
-use Rattle.bytes.specs.Bytes.{index_of}
+use Rattle.text.specs.Scan.{index_of}
 use Rattle.script.specs.Table.{call_row, call_of}
 use Rattle.script.specs.Parts.{parts_of, line_by}
 use Rattle.script.specs.declared.table.Common.{Common}

@@ -7,7 +7,7 @@ use script::table::Common;
 use script::{Call, parts, table};
 
 // A call with its numbers; or the column of the first byte that does not fit.
-#[derive(Drop)]
+#[derive(Clone, Copy)]
 pub enum Asked {
     Calls(Call, Numbers),
     Bad(usize),
@@ -16,7 +16,7 @@ pub enum Asked {
 pub(crate) fn read(line: &[u8]) -> Asked
     ensures { result ≡ asked_of line.now }
 {
-    let at = bytes::scan::find(line, 0, line.len(), 32);
+    let at = text::scan::find(line, 0, line.len(), 32);
     match table::call_of(&line[..at]) {
         Common::Calls(c) => match parts::parts_of(line, at, table::call_row(c)) {
             Parts::Fit(n) => Asked::Calls(c, n),

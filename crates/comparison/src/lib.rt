@@ -24,7 +24,7 @@ use plainmodel::Plain;
 use text::lines::refused_line;
 
 // What stands between two lines: the two records, how many lines are done, and whether the script goes on.
-#[derive(Drop)]
+#[derive(Clone, Copy)]
 pub struct Standing {
     pub machine: Machine,
     pub plain: Plain,
@@ -33,14 +33,14 @@ pub struct Standing {
 }
 
 // What a line leaves: what stands after it, and the place behind its answer.
-#[derive(Drop)]
+#[derive(Clone, Copy)]
 pub struct Told {
     pub standing: Standing,
     pub filled: usize,
 }
 
 // What a stretch of the script leaves: what stands after it, where the next line begins, and the bytes said.
-#[derive(Drop)]
+#[derive(Clone, Copy)]
 pub struct Stretch {
     pub standing: Standing,
     pub place: usize,
@@ -136,7 +136,7 @@ pub fn speak(
     let mut place = from.place;
     let mut filled = 0;
     while (place < script.len()) & (9000 <= out.len() - filled) {
-        let end = bytes::scan::find(script, place, script.len(), 10);
+        let end = text::scan::find(script, place, script.len(), 10);
         let number = at.lines + 1;
         let told = step::step(
             at,

@@ -10,7 +10,7 @@ use model::{Access, Outcome, Pcs, Shape, Stop};
 use paging::table;
 
 // The address is no multiple of the width, the access is illegal, the page is not resident, or the bytes are at this place.
-#[derive(Drop)]
+#[derive(Clone, Copy)]
 pub enum Reached {
     Misaligned,
     Illegal,

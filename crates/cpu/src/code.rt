@@ -7,7 +7,7 @@ ghost use Rattle.cpu.specs.Found.{Found, Finds};
 use model::{Access, MainPage, Shape, VirtualPage};
 use paging::{pages, table};
 
-#[derive(Drop)]
+#[derive(Clone, Copy)]
 pub struct CodePage {
     pub page: VirtualPage,
     pub frame: MainPage,

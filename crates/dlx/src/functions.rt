@@ -4,7 +4,7 @@ ghost use Rattle.model.specs.Instruction.{register};
 ghost use Rattle.dlx.specs.Asked.{asked};
 
 // What a function under opcode 0 makes of its registers.
-#[derive(Drop)]
+#[derive(Clone, Copy)]
 pub enum Value {
     Is(u32),
     Unknown,

@@ -12,7 +12,7 @@ use model::{FrameBook, Outcome, Pcs, Shape, Stop};
 use paging::{handler, pages};
 
 // What a run comes to, beside the lent registers and memories.
-#[derive(Drop)]
+#[derive(Clone, Copy)]
 pub struct Ended {
     pub stop: Stop,
     pub finished: u32,
@@ -24,7 +24,7 @@ pub struct Ended {
 
 // What a leg comes to: the outcome that ended it, the instructions still left, the PCs of the next attempt, and the main pages that
 // were stored to, bit p for page p.
-#[derive(Drop)]
+#[derive(Clone, Copy)]
 pub(crate) struct Leg {
     pub outcome: Outcome,
     pub left: u32,

@@ -95,7 +95,7 @@ module _ (s : Shape) (main swap : Bor (List ℕ)) (reach : Reachable s main.now 
   abbrev IsPage : Bor (List ℕ) → Type 0
   IsPage r = PartOf (page_home s main swap x) (page_part s both x) r
 
-  pub page_main : h ≡ Main i → (r : Bor (List ℕ)) → r.ref_ptr.0 ≡ main.ptr.0 → r.ref_ptr.1 ≡ main.ptr.1 + i
+  pub page_main : h ≡ Main i → (r : Bor (List ℕ)) → r.ref_ptr.0 ≡ main.ref_ptr.0 → r.ref_ptr.1 ≡ main.ref_ptr.1 + i
       → r.now ≡ take (i + 4096 - i) (drop i main.now) → IsPage r
   page_main q r block begins b =
       let k : InMain s main.now va i = in_main s main.now va h e i q in
@@ -104,7 +104,7 @@ module _ (s : Shape) (main swap : Bor (List ℕ)) (reach : Reachable s main.now 
       let bytes = sym (border.main_from s both reach.safe reach.whole va 4096 first_inside one_page i k.here k.at) ∙ bytes_are in
       rw v (cut main r _ block i 4096 (ap₂ {C = Part} (λ j l. record { place = j; bytes = l }) place bytes) begins b)
 
-  pub page_swap : h ≡ Swap i → (r : Bor (List ℕ)) → r.ref_ptr.0 ≡ swap.ptr.0 → r.ref_ptr.1 ≡ swap.ptr.1 + i
+  pub page_swap : h ≡ Swap i → (r : Bor (List ℕ)) → r.ref_ptr.0 ≡ swap.ref_ptr.0 → r.ref_ptr.1 ≡ swap.ref_ptr.1 + i
       → r.now ≡ take (i + 4096 - i) (drop i swap.now) → IsPage r
   page_swap q r block begins b =
       let k : InSwap s main.now va i = in_swap s main.now va h e i q in

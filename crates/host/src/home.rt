@@ -8,7 +8,7 @@ use model::Shape;
 use paging::{pages, table};
 
 // In which memory, and at which byte of it.
-#[derive(Drop)]
+#[derive(Clone, Copy)]
 pub enum Home {
     Main(usize),
     Swap(usize),

@@ -1,6 +1,6 @@
 -- The ways out of the format's tests: a law for each, over plain variables.
 use mathlib.Core.Path.{◌≡◌, sym, ap, ◌∙◌}
-use mathlib.Core.Bool.{Bool, true, false, ◌&&◌, not, and_assoc, and_true}
+use mathlib.Core.Bool.{Bool, true, false, ◌&&◌, not, and_assoc, and-true}
 use mathlib.Core.List.{List}
 use Prim.Native.Nat.{ℕ, ◌+◌, ◌*◌, ◌%◌, ◌≤◌, ◌<◌}
 use native.Mathlib.Omega.{arith}
@@ -35,7 +35,7 @@ module _ (t : Trailer) (n : ℕ) where
         → (eqb t.rights (24 + t.ptl) && eqb t.pages (24 + t.ptl + 4096 * t.ptl) && leb t.pages n && leb n (t.pages + 1024))
         ≡ distances_right t n
     unfolding distances_right passes
-    ptl_right k = simp (le-leb 1 t.ptl h, le-leb t.ptl 1024 k, and_assoc, and_true)
+    ptl_right k = simp (le-leb 1 t.ptl h, le-leb t.ptl 1024 k, and_assoc, and-true)
 
 -- ---- the whole row, in the code's four steps
 module _ (l : List ℕ) where
@@ -44,7 +44,7 @@ module _ (l : List ℕ) where
 
   split : well_formed l ≡ (distances_right (trailer_of l) (length l) && (every_right && (aligned 4 (start_of l) && frames_right (frames_of l))))
   unfolding well_formed distances_right passes every_right
-  split = simp (and_assoc, and_true)
+  split = simp (and_assoc, and-true)
 
   far_enough : distances_right (trailer_of l) (length l) ≡ true → 24 + ptl_of l + 4096 * ptl_of l ≤ length l
   unfolding distances_right

@@ -5,7 +5,7 @@ use crate::{format, sections};
 use model::ImageAnswer;
 
 // The answer has the trailer's numbers as written, or the refusal.
-#[derive(Drop)]
+#[derive(Clone, Copy)]
 pub struct Image<'a> {
     pub file: &'a [u8],
     pub answer: ImageAnswer,

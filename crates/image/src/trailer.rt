@@ -3,7 +3,7 @@ ghost use Rattle.std.specs.Prelude.{◌≡◌, ◌≤◌, length};
 ghost use Rattle.image.specs.Trailer.{trailer_of};
 
 // In the trailer's order: the two distances from the file's end back to the sections come first.
-#[derive(Drop)]
+#[derive(Clone, Copy)]
 pub(crate) struct Trailer {
     pub rights: u32,
     pub pages: u32,

@@ -1,17 +1,17 @@
 // The types of the paged console machine. What they mean stands in specs/.
 
 // Three page numbers occur: virtual, main (physical) and swap. Only the translation rules of specs/Pages turn one into another.
-#[derive(Drop)]
+#[derive(Clone, Copy)]
 pub struct VirtualPage(pub u32);
 
-#[derive(Drop)]
+#[derive(Clone, Copy)]
 pub struct MainPage(pub u32);
 
-#[derive(Drop)]
+#[derive(Clone, Copy)]
 pub struct SwapPage(pub u32);
 
 // The shape numbers: P, a, abase, ptl, pto, sbase.
-#[derive(Drop)]
+#[derive(Clone, Copy)]
 pub struct Shape {
     pub pages: u32,
     pub frames: u32,
@@ -22,7 +22,7 @@ pub struct Shape {
 }
 
 // The frame book: b, hand, B[0..31], and the marks, bit i for frame i.
-#[derive(Drop)]
+#[derive(Clone, Copy)]
 pub struct FrameBook {
     pub used: u32,
     pub hand: u32,
@@ -31,14 +31,14 @@ pub struct FrameBook {
 }
 
 // DPC and PC'.
-#[derive(Drop)]
+#[derive(Clone, Copy)]
 pub struct Pcs {
     pub dpc: u32,
     pub next: u32,
 }
 
 // The record.
-#[derive(Drop)]
+#[derive(Clone, Copy)]
 pub struct Machine {
     pub shape: Shape,
     pub book: FrameBook,
@@ -47,7 +47,7 @@ pub struct Machine {
 }
 
 // An access to a virtual address: illegal, a page fault, or at a place in a memory.
-#[derive(Drop)]
+#[derive(Clone, Copy)]
 pub enum Access {
     Illegal,
     Fault,
@@ -55,7 +55,7 @@ pub enum Access {
 }
 
 // What an instruction word asks for. The registers are read already, memory is not.
-#[derive(Drop)]
+#[derive(Clone, Copy)]
 pub enum Plan {
     Unknown,
     Set { rd: u32, value: u32, target: u32 },
@@ -69,7 +69,7 @@ pub enum Plan {
 }
 
 // Stops 0 to 4.
-#[derive(Drop)]
+#[derive(Clone, Copy)]
 pub enum Stop {
     Limit,
     Trap(u32),
@@ -80,7 +80,7 @@ pub enum Stop {
 
 // What one attempt comes to: carried out, a store carried out at a place in memory, a trap carried out, a page missing at a virtual
 // address, or a stop.
-#[derive(Drop)]
+#[derive(Clone, Copy)]
 pub enum Outcome {
     Done(Pcs),
     Wrote(Pcs, usize),
@@ -90,7 +90,7 @@ pub enum Outcome {
 }
 
 // Refusals 1 to 10.
-#[derive(Drop)]
+#[derive(Clone, Copy)]
 pub enum Refusal {
     Bound,
     Unsound,
@@ -105,14 +105,14 @@ pub enum Refusal {
 }
 
 // The answer of a call that only does its work or refuses it.
-#[derive(Drop)]
+#[derive(Clone, Copy)]
 pub enum Verdict {
     Granted,
     Refused(Refusal),
 }
 
 // The answer of a run.
-#[derive(Drop)]
+#[derive(Clone, Copy)]
 pub enum RunAnswer {
     Ran {
         stop: Stop,
@@ -124,21 +124,21 @@ pub enum RunAnswer {
 }
 
 // The answer of the reader of console images.
-#[derive(Drop)]
+#[derive(Clone, Copy)]
 pub enum ImageAnswer {
     Image { ptl: u32, start: u32, frames: u32 },
     NotImage(Refusal),
 }
 
 // What a run hands back: the record and the answer.
-#[derive(Drop)]
+#[derive(Clone, Copy)]
 pub struct RunResult {
     pub machine: Machine,
     pub answer: RunAnswer,
 }
 
 // What a host write, a reply and loading hand back.
-#[derive(Drop)]
+#[derive(Clone, Copy)]
 pub struct Handed {
     pub machine: Machine,
     pub verdict: Verdict,

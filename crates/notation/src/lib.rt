@@ -3,21 +3,21 @@ use model::Refusal;
 
 // What stands behind a mnemonic: a byte, or an operand. An operand's field begins at the bit that counts `scale`, holds `size` numbers,
 // and is extended by sign or not.
-#[derive(Drop)]
+#[derive(Clone, Copy)]
 pub enum Piece {
     Mark(u8),
     Field { scale: u64, size: u64, signed: bool },
 }
 
 // What is read at a place of a line: a value and the place behind it, or the refusal and the place that earns it.
-#[derive(Drop)]
+#[derive(Clone, Copy)]
 pub enum Parsed {
     Value { value: u64, next: usize },
     Wrong { refusal: Refusal, place: usize },
 }
 
 // The assembler's answer: how many bytes the words take; or a refusal, and the line and the column that earn it (0 and 0 for want of room).
-#[derive(Drop)]
+#[derive(Clone, Copy)]
 pub enum AssembleAnswer {
     Assembled {
         length: usize,
@@ -30,7 +30,7 @@ pub enum AssembleAnswer {
 }
 
 // The lister's answer: how many bytes the text takes.
-#[derive(Drop)]
+#[derive(Clone, Copy)]
 pub enum ListAnswer {
     Listed { length: usize },
     NotListed(Refusal),

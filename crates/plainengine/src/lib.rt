@@ -9,7 +9,7 @@ ghost use Rattle.plainengine.specs.Engine.{flat_of, course, Walked};
 use model::{Outcome, Pcs, Stop};
 
 // What a run comes to, beside the lent registers and memory.
-#[derive(Drop)]
+#[derive(Clone, Copy)]
 pub struct Ended {
     pub stop: Stop,
     pub finished: u32,
@@ -17,7 +17,7 @@ pub struct Ended {
 }
 
 // What a leg comes to: the outcome that ended it, the instructions still left, the PCs of the next attempt.
-#[derive(Drop)]
+#[derive(Clone, Copy)]
 pub(crate) struct Leg {
     pub outcome: Outcome,
     pub left: u32,

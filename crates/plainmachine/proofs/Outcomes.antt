@@ -72,7 +72,7 @@ module _ (m : Plain) (memory : Bor (List ℕ)) (rights : List ℕ) (x : VirtualP
   unfolding view_call
   view_refused r h begins q = rw (← e, h) (cut_none memory b _ block refl begins q)
 
-  pub view_done : v ≡ Granted → (i : ℕ) → i ≡ 4096 * x.0 → b.ptr.1 ≡ memory.ptr.1 + i
+  pub view_done : v ≡ Granted → (i : ℕ) → i ≡ 4096 * x.0 → b.ref_ptr.1 ≡ memory.ref_ptr.1 + i
       → b.now ≡ take (i + 4096 - i) (drop i memory.now) → PageViewPromise m memory rights x b
   unfolding view_call page
   view_done h i at begins q = rw (← e, h, ← at) (cut memory b _ block i 4096 refl begins q)

@@ -2,7 +2,7 @@
 use model::{Pcs, Refusal, Stop, Verdict};
 
 // The record: ptl, GPR 0 to 31, DPC and PC'.
-#[derive(Drop)]
+#[derive(Clone, Copy)]
 pub struct Plain {
     pub ptl: u32,
     pub gpr: [u32; 32],
@@ -10,21 +10,21 @@ pub struct Plain {
 }
 
 // The answer of a run. "Loads are not its business and it reports none."
-#[derive(Drop)]
+#[derive(Clone, Copy)]
 pub enum PlainAnswer {
     Ran { stop: Stop, finished: u32 },
     NotRun(Refusal),
 }
 
 // What a run hands back: the record and the answer.
-#[derive(Drop)]
+#[derive(Clone, Copy)]
 pub struct PlainResult {
     pub plain: Plain,
     pub answer: PlainAnswer,
 }
 
 // What a reply and loading hand back.
-#[derive(Drop)]
+#[derive(Clone, Copy)]
 pub struct PlainHanded {
     pub plain: Plain,
     pub verdict: Verdict,

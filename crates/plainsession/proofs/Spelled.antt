@@ -4,7 +4,7 @@ use mathlib.Core.List.{List}
 use Prim.Native.Nat.{ℕ, ◌+◌, ◌≤◌}
 use native.Mathlib.Omega.{arith}
 use lib.ListN.{length, take}
-use Rattle.bytes.specs.Bytes.{slice, index_of}
+use Rattle.text.specs.Scan.{slice, index_of}
 use Rattle.script.specs.Table.{call_row, call_of}
 use Rattle.script.specs.Parts.{parts_of}
 use Rattle.script.specs.declared.parts.Numbers.{Numbers}

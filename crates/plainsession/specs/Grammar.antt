@@ -1,6 +1,6 @@
 -- The grammar of a script of `plain`: what a line asks for.
 use Rattle.std.specs.Prelude.{List, ℕ, take}
-use Rattle.bytes.specs.Bytes.{index_of}
+use Rattle.text.specs.Scan.{index_of}
 use Rattle.script.specs.Table.{call_row}
 use Rattle.script.specs.Parts.{parts_of, line_by}
 use Rattle.script.specs.declared.table.Row.TheVariants.{Alone}

@@ -19,7 +19,7 @@ use text::lines::refused_line;
 use text::reading;
 
 // The record afterwards, and the place behind the line.
-#[derive(Drop)]
+#[derive(Clone, Copy)]
 pub struct Done {
     pub plain: Plain,
     pub filled: usize,

@@ -19,7 +19,7 @@ use plainmodel::Plain;
 use text::lines::refused_line;
 
 // What stands between two lines: the record, and how many bytes of each buffer are lent.
-#[derive(Drop)]
+#[derive(Clone, Copy)]
 pub struct Standing {
     pub plain: Plain,
     pub memory: usize,
@@ -27,7 +27,7 @@ pub struct Standing {
 }
 
 // What a line leaves: what stands after it, the place behind its answer, and whether the script goes on.
-#[derive(Drop)]
+#[derive(Clone, Copy)]
 pub struct Told {
     pub standing: Standing,
     pub filled: usize,
@@ -35,7 +35,7 @@ pub struct Told {
 }
 
 // What a stretch of the script leaves: how many lines are done, where the next one begins, the bytes said.
-#[derive(Drop)]
+#[derive(Clone, Copy)]
 pub struct Stretch {
     pub standing: Standing,
     pub number: u32,
@@ -120,7 +120,7 @@ pub fn speak(
     let mut place = from.place;
     let mut filled = 0;
     while (place < script.len()) & (9000 <= out.len() - filled) {
-        let end = bytes::scan::find(script, place, script.len(), 10);
+        let end = text::scan::find(script, place, script.len(), 10);
         number += 1;
         let told = step::step(at, memory, rights, &script[place..end], number, out, filled);
         let next = told.standing;

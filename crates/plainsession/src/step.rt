@@ -98,7 +98,7 @@ pub(crate) fn step(
         Line::Changes(c, n) => {
             let hex = n.hex;
             let next = change(at, memory, rights, c, n, &line[hex..]);
-            let word = bytes::scan::find(line, 0, line.len(), 32);
+            let word = text::scan::find(line, 0, line.len(), 32);
             Told {
                 standing: next,
                 filled: hex_line(out, filled, &line[..word], b""),

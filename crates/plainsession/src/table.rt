@@ -10,7 +10,7 @@ use script::{Call, parts, table};
 use text::reading::same;
 
 // The changes meet what stands there: the whole buffers, the record, how much is lent.
-#[derive(Drop)]
+#[derive(Clone, Copy)]
 pub enum Change {
     Memory,
     Rights,
@@ -18,7 +18,7 @@ pub enum Change {
     Lend,
 }
 
-#[derive(Drop)]
+#[derive(Clone, Copy)]
 pub enum Word {
     Calls(Call),
     Sum,
@@ -27,7 +27,7 @@ pub enum Word {
 }
 
 // A call or a change with its numbers; the sums; or the column of the first byte that does not fit.
-#[derive(Drop)]
+#[derive(Clone, Copy)]
 pub enum Line {
     Calls(Call, Numbers),
     Sum,
@@ -86,7 +86,7 @@ fn word_of(word: &[u8]) -> Word
 pub fn parse(line: &[u8]) -> Line
     ensures { ParsePromise line.now result }
 {
-    let at = bytes::scan::find(line, 0, line.len(), 32);
+    let at = text::scan::find(line, 0, line.len(), 32);
     match word_of(&line[..at]) {
         Word::Calls(c) => match parts::parts_of(line, at, table::call_row(c)) {
             Parts::Fit(n) => Line::Calls(c, n),

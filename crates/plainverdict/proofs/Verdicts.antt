@@ -1,6 +1,6 @@
 -- Each verdict by its ways out, in the order 1, 2, 4, 3.
 use mathlib.Core.Path.{◌≡◌, sym, ◌∙◌}
-use mathlib.Core.Bool.{Bool, true, false, not, and_true}
+use mathlib.Core.Bool.{Bool, true, false, not, and-true}
 use mathlib.Core.List.{List, []}
 use Prim.Native.Nat.{ℕ, ◌≤◌, ◌<◌}
 use native.Mathlib.Omega.{arith}
@@ -37,7 +37,7 @@ module _ (gpr0 : ℕ) (rights : List ℕ) where
 
   pub by_rights_right : gpr0 ≡ 0 → (r : Bool) → r ≡ rights_right rights → r ≡ sound (handed 0 gpr0 [] rights)
   unfolding sound passes
-  by_rights_right h r e = simp (eq-eqb gpr0 0 h, e, and_true)
+  by_rights_right h r e = simp (eq-eqb gpr0 0 h, e, and-true)
 
 module _ (ptl gpr0 : ℕ) (bytes rights : List ℕ) (f : Bool) (e : f ≡ fits (handed ptl 0 bytes rights)) where
   pub bound : not f ≡ true → Refused Bound ≡ plain_verdict (handed ptl gpr0 bytes rights) Granted

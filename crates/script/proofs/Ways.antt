@@ -8,7 +8,7 @@ use lib.Dec.{eqb}
 use lib.ListN.{length, get_or, take}
 use lib.Seq.{take-length}
 use borrow.Author.Tests.{le-leb, lt-leb, eq-eqb, ne_eqb}
-use Rattle.bytes.specs.Bytes.{slice, index_of}
+use Rattle.text.specs.Scan.{slice, index_of}
 use Rattle.model.specs.Bytes.{same}
 use Rattle.text.specs.Reading.{is_space, number_at, hex_end}
 use Rattle.text.specs.declared.reading.Part.{Part}

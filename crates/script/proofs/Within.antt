@@ -9,7 +9,7 @@ use lib.ListN.{length, get_or, take}
 use borrow.Author.Tests.{leb-true}
 use Rattle.model.specs.Choice.{if◌then◌else◌}
 use Rattle.laws.proofs.Choice.{chosen}
-use Rattle.bytes.specs.Bytes.{index_of, index_after}
+use Rattle.text.specs.Scan.{index_of, index_after}
 use Rattle.text.specs.Reading.{is_space, hex_end}
 use Rattle.text.proofs.Bounds.{number_in, space_inside, hex_inside, PartIn}
 use Rattle.text.specs.declared.reading.Part.{Part}

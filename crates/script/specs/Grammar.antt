@@ -1,6 +1,6 @@
 -- The grammar of a script of `series`: what a line asks for.
 use Rattle.std.specs.Prelude.{List, ℕ, take}
-use Rattle.bytes.specs.Bytes.{index_of}
+use Rattle.text.specs.Scan.{index_of}
 use Rattle.script.specs.Table.{call_row, change_row, word_of}
 use Rattle.script.specs.Parts.{parts_of, line_by}
 use Rattle.script.specs.declared.parts.Numbers.{Numbers}

@@ -8,7 +8,7 @@ use parts::{Numbers, Parts};
 use table::{Row, Word};
 
 // The calls, which every program has, meet the lent bytes.
-#[derive(Drop)]
+#[derive(Clone, Copy)]
 pub enum Call {
     Run,
     Read,
@@ -19,14 +19,14 @@ pub enum Call {
 }
 
 // What `series` shows beside them, of the frame book and of the lent bytes.
-#[derive(Drop)]
+#[derive(Clone, Copy)]
 pub enum Show {
     Frames,
     Sum,
 }
 
 // Its changes meet what stands there: the whole buffers, the record, how much is lent, an entry's spare bits.
-#[derive(Drop)]
+#[derive(Clone, Copy)]
 pub enum Change {
     Main,
     Swap,
@@ -36,7 +36,7 @@ pub enum Change {
 }
 
 // A line of `series`: a call or a change with its numbers; what is shown; or the column of the first byte that does not fit.
-#[derive(Drop)]
+#[derive(Clone, Copy)]
 pub enum Line {
     Calls(Call, Numbers),
     Shows(Show),
@@ -47,7 +47,7 @@ pub enum Line {
 pub fn parse(line: &[u8]) -> Line
     ensures { ParsePromise line.now result }
 {
-    let at = bytes::scan::find(line, 0, line.len(), 32);
+    let at = text::scan::find(line, 0, line.len(), 32);
     match table::word_of(&line[..at]) {
         Word::Calls(c) => match parts::parts_of(line, at, table::call_row(c)) {
             Parts::Fit(n) => Line::Calls(c, n),

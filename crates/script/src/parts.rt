@@ -7,14 +7,14 @@ use text::reading;
 use text::reading::Part;
 
 // The numbers of a line, 0 where it has none, and where the digits of its HEX begin: at its end where it has none.
-#[derive(Drop)]
+#[derive(Clone, Copy)]
 pub struct Numbers {
     pub first: u32,
     pub second: u32,
     pub hex: usize,
 }
 
-#[derive(Drop)]
+#[derive(Clone, Copy)]
 pub enum Parts {
     Fit(Numbers),
     Unfit(usize),

@@ -6,14 +6,14 @@ use crate::{Call, Change, Show};
 use text::reading::same;
 
 // What a word names among the calls, which the programs have in common.
-#[derive(Drop)]
+#[derive(Clone, Copy)]
 pub enum Common {
     Calls(Call),
     Other,
 }
 
 // What a word of `series` names.
-#[derive(Drop)]
+#[derive(Clone, Copy)]
 pub enum Word {
     Calls(Call),
     Shows(Show),
@@ -23,7 +23,7 @@ pub enum Word {
 
 // The parts behind a word, with their bounds: none; a number; two; a number and HEX; the same, where the bytes of HEX lie within a
 // buffer from the number on.
-#[derive(Drop)]
+#[derive(Clone, Copy)]
 pub enum Row {
     Alone,
     One(u32),

@@ -18,7 +18,7 @@ use text::lines::refused_line;
 use text::reading;
 
 // The record afterwards, and the place behind the line.
-#[derive(Drop)]
+#[derive(Clone, Copy)]
 pub struct Done {
     pub machine: Machine,
     pub filled: usize,

@@ -20,7 +20,7 @@ use model::{ImageAnswer, Machine, Refusal, Verdict};
 use text::lines::refused_line;
 
 // What stands between two lines: the record, and how many bytes of each buffer are lent.
-#[derive(Drop)]
+#[derive(Clone, Copy)]
 pub struct Standing {
     pub machine: Machine,
     pub main: usize,
@@ -28,7 +28,7 @@ pub struct Standing {
 }
 
 // What a line leaves: what stands after it, the place behind its answer, and whether the script goes on.
-#[derive(Drop)]
+#[derive(Clone, Copy)]
 pub struct Told {
     pub standing: Standing,
     pub filled: usize,
@@ -36,7 +36,7 @@ pub struct Told {
 }
 
 // What a stretch of the script leaves: how many lines are done, where the next one begins, the bytes said.
-#[derive(Drop)]
+#[derive(Clone, Copy)]
 pub struct Stretch {
     pub standing: Standing,
     pub number: u32,
@@ -125,7 +125,7 @@ pub fn speak(
     let mut place = from.place;
     let mut filled = 0;
     while (place < script.len()) & (9000 <= out.len() - filled) {
-        let end = bytes::scan::find(script, place, script.len(), 10);
+        let end = text::scan::find(script, place, script.len(), 10);
         number += 1;
         let told = step::step(at, main, swap, &script[place..end], number, out, filled);
         let next = told.standing;

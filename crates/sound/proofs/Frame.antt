@@ -1,6 +1,6 @@
 -- A frame in use by what the code finds: its page, and the entry of that page.
 use mathlib.Core.Path.{◌≡◌, refl, sym, ap, ◌∙◌}
-use mathlib.Core.Bool.{Bool, true, false, ◌&&◌, and_false}
+use mathlib.Core.Bool.{Bool, true, false, ◌&&◌, and-false}
 use mathlib.Core.List.{List}
 use Prim.Native.Nat.{ℕ, ◌%◌, ◌≤◌, ◌<◌}
 use borrow.Author.Tests.{lt-ltb, le-ltb, eq-eqb, ne_eqb}
@@ -42,13 +42,13 @@ module _ (s : Shape) (used : ℕ) (held main : List ℕ) where
       its = he ∙ ap (entry s main) (is ∙ sym (get_or-map virtual held i 0))
 
       unseated : i < used → seated s b main i ≡ false → false ≡ Both
-      unseated q h = rw (← fails used (λ k. seated s b main k) i q h) (sym (and_false (held_in_table s.ptl b)))
+      unseated q h = rw (← fails used (λ k. seated s b main k) i q h) (sym (and-false (held_in_table s.ptl b)))
 
       pub seat_invalid : i < used → (e % 2 ≡ 1 → ⊥) → false ≡ Both
       seat_invalid q n = unseated q (rw (← its, ne_eqb (e % 2) 1 n) refl)
 
       pub seat_other : i < used → ((ppx e).0 ≡ (frame_at s i).0 → ⊥) → false ≡ Both
-      seat_other q n = unseated q (rw (← its, ne_eqb (ppx e).0 (frame_at s i).0 n) (and_false (valid e)))
+      seat_other q n = unseated q (rw (← its, ne_eqb (ppx e).0 (frame_at s i).0 n) (and-false (valid e)))
 
       pub seat_there : e % 2 ≡ 1 → (ppx e).0 ≡ (frame_at s i).0 → seated s b main i ≡ true
       seat_there v q = rw (← its) (and_both _ _ (eq-eqb (e % 2) 1 v) (eq-eqb (ppx e).0 (frame_at s i).0 q))

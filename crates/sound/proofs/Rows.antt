@@ -1,6 +1,6 @@
 -- The tests of soundness as code runs them, one after the other.
 use mathlib.Core.Path.{◌≡◌, refl, sym}
-use mathlib.Core.Bool.{Bool, true, false, ◌&&◌, and_true}
+use mathlib.Core.Bool.{Bool, true, false, ◌&&◌, and-true}
 use mathlib.Core.List.{◌∷◌}
 use Prim.Native.Nat.{ℕ, ◌≤◌, ◌<◌}
 use borrow.Author.Tests.{eq-eqb, ne_eqb, le-leb, lt-leb}
@@ -53,4 +53,4 @@ module _ (r : Machine) (m : Memory) where
     sound_so_far z u n e k q =
         let t = and_left held _ h in
         let s = and_right held _ h in
-        simp (eq-eqb _ _ z, le-leb _ _ u, t, d, n, s, only_these r.shape r.book m.main t d s e, k, q, and_true)
+        simp (eq-eqb _ _ z, le-leb _ _ u, t, d, n, s, only_these r.shape r.book m.main t d s e, k, q, and-true)

@@ -11,7 +11,7 @@ ghost use Rattle.sound.specs.Lean.{whole};
 use model::{Machine, Shape};
 
 // A machine as far as soundness asks of it, but for B, which is lent beside it as words: so no array is copied.
-#[derive(Drop)]
+#[derive(Clone, Copy)]
 pub struct Lean {
     pub shape: Shape,
     pub used: u32,

@@ -11,7 +11,7 @@ use lib.Dec.{eqb, ltb, leb}
 use lib.ListN.{length, take, drop, get_or}
 use lib.Seq.{take-length, drop-length, drop-cons, drop-drop}
 use borrow.Author.Tests.{le-leb, ltb-true, ltb-false, leb-true}
-use Rattle.bytes.specs.Bytes.{slice, index_after, index_of}
+use Rattle.text.specs.Scan.{slice, index_after, index_of}
 use Rattle.model.specs.Choice.{if◌then◌else◌}
 use Rattle.laws.proofs.Choice.{and_left, and_right}
 use Rattle.text.specs.Text.{Appended}

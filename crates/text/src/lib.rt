@@ -5,6 +5,7 @@ ghost use Rattle.text.specs.Text as text;
 
 pub mod lines;
 pub mod reading;
+pub mod scan;
 
 // The bytes as they are.
 pub fn put(out: &mut [u8], at: usize, bytes: &[u8]) -> usize

@@ -5,7 +5,7 @@ ghost use Rattle.laws.specs.Over.{over};
 ghost use Rattle.text.specs.Reading as reading;
 
 // A number and the place behind it, or the column of the first byte that does not fit.
-#[derive(Drop)]
+#[derive(Clone, Copy)]
 pub enum Part {
     Number { value: u32, next: usize },
     NotNumber { column: usize },

@@ -44,8 +44,8 @@ abbrev ◌lists◌ : ℕ → String → Bool
 w lists text = listed w is spelled text
 
 -- both ways
-infix 5 ◌stands-for◌
-abbrev ◌stands-for◌ : String → ℕ → Bool
+infix 5 ◌stands_for◌
+abbrev ◌stands_for◌ : String → ℕ → Bool
 text stands_for w = (text reads w) && (w lists text)
 
 -- a text of several lines

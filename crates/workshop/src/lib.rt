@@ -9,7 +9,7 @@ use model::Refusal;
 use notation::{AssembleAnswer, ListAnswer};
 
 // How many bytes of the output are to be written, and how many of what is to be said on descriptor 2.
-#[derive(Drop)]
+#[derive(Clone, Copy)]
 pub struct Made {
     pub written: usize,
     pub said: usize,

@@ -1,4 +1,6 @@
 // The arithmetic of the instructions: sign extension, differences, comparisons, shifts.
+#![tactic(auto)]
+
 ghost use Rattle.std.specs.Prelude.{◌≡◌, ◌*◌, ◌^◌, ◌<◌};
 ghost use Rattle.model.specs.Words as words;
 ghost use Rattle.model.specs.Words.{minus, low, extend, below, shift_left, shift_right, top_ones, shift_signed, compared};

@@ -1,4 +1,6 @@
 // The lines that answer the lines of a script, each put into a lent buffer from a place on.
+#![tactic(auto)]
+
 pub mod fnv;
 
 ghost use Rattle.std.specs.Prelude.{◌+◌, ◌*◌, ◌≤◌, ◌++◌, length};

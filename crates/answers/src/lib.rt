@@ -1,4 +1,6 @@
 // "Where an answer is an enum, a definition gives this paper's number and values for each of the enum's cases": those numbers.
+#![tactic(auto)]
+
 ghost use Rattle.std.specs.Prelude.{◌≡◌};
 ghost use Rattle.model.specs.Answers as numbers;
 

@@ -1,4 +1,6 @@
 // The assembler: a text of one instruction a line, to words. A pass reads every line and counts, a pass writes.
+#![tactic(auto)]
+
 ghost use Rattle.std.specs.Prelude.{◌≡◌, [], ◌+◌, ◌≤◌, length};
 ghost use Rattle.laws.specs.Over.{over};
 ghost use Rattle.notation.specs.Calls.{bytes_of_word};

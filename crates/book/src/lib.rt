@@ -1,4 +1,6 @@
 // The frame book by value, apart from memory: the marks, which frame a load takes, and the book after it.
+#![tactic(auto)]
+
 pub mod check;
 pub mod marks;
 

@@ -1,1 +1,2 @@
 // The paging theorem, demand 3: statements in specs/, theorems in proofs/.
+#![tactic(auto)]

@@ -1,4 +1,6 @@
 // `compare IMAGE_FILE MAIN_PAGES`: a script of calls on standard input, done on both engines, which are compared after each.
+#![tactic(auto)]
+
 ghost use Rattle.std.specs.Prelude.{◌≡◌, ◌*◌, ◌≤◌, length};
 ghost use Rattle.model.specs.State.{state};
 ghost use Rattle.talk.specs.Script.{lines_of, talk};

@@ -1,5 +1,7 @@
 // A session of `compare`: the image is loaded into both machines, then every line of the script is done on both, and they are compared.
 // What is said goes into a lent buffer, a stretch at a time; the program writes it out.
+#![tactic(auto)]
+
 mod agree;
 mod asked;
 mod paged;

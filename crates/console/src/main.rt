@@ -1,4 +1,6 @@
 // The small program: standard input to standard output. One byte more than an image may have is read, so that a longer input is known.
+#![tactic(auto)]
+
 fn main() {
     let mut input = [0; 17437];
     let length = io::read_full(0, &mut input);

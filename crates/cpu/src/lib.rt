@@ -1,4 +1,6 @@
 // One attempt at an instruction, on lent registers and lent main memory.
+#![tactic(auto)]
+
 pub mod access;
 pub mod code;
 pub mod transfer;

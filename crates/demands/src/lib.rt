@@ -1,1 +1,2 @@
 // The three demands as theorems: statements in specs/, theorems in proofs/.
+#![tactic(auto)]

@@ -1,4 +1,6 @@
 // The run of a sound machine: one attempt after another, and a page load where an attempt misses a page.
+#![tactic(auto)]
+
 ghost use Rattle.std.specs.Prelude.{◌≡◌, ℕ, ◌/◌, ◌^◌, ◌<◌, ◌≤◌};
 ghost use Rattle.model.specs.Pages.{page_of};
 ghost use Rattle.model.specs.Run.{uncounted, instruction, run};

@@ -1,1 +1,2 @@
 // Theorems only: the laws of the makers' notation.
+#![tactic(auto)]

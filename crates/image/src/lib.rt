@@ -1,5 +1,7 @@
 // Console images: the reader, which keeps the image at hand and hands out the sections as parts of the file's own bytes. Whoever calls
 // these three functions of a file needs no walk.
+#![tactic(auto)]
+
 ghost use Rattle.model.specs.Promises.{ImagePromise, PagesPromise, RightsPromise};
 
 use model::ImageAnswer;

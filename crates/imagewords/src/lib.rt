@@ -1,5 +1,7 @@
 // The reader of console images for hosts in C and Rust: its answer as words in a lent slice. Both archives export it, each under a name
 // of its own.
+#![tactic(auto)]
+
 ghost use Rattle.std.specs.Prelude.{◌≡◌, [], ◌∷◌, length};
 ghost use Rattle.model.specs.Answers as numbers;
 ghost use Rattle.imagewords.specs.Image.{image_words, ImagePromise};

@@ -1,1 +1,2 @@
 // Theorems about the model. They stand in proofs/.
+#![tactic(auto)]

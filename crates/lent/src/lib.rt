@@ -1,4 +1,6 @@
 // The frame book lent by `&mut`: "One such step leaves the frame book advanced by exactly one load."
+#![tactic(auto)]
+
 ghost use Rattle.std.specs.Prelude.{◌<◌, ◌≤◌};
 ghost use Rattle.model.specs.Frames as frames;
 ghost use Rattle.model.specs.Promises.{AdvancePromise};

@@ -1,4 +1,6 @@
 // A line of a text, read from the left: a mnemonic with its operands, or one plain number.
+#![tactic(auto)]
+
 ghost use Rattle.std.specs.Prelude.{◌≡◌, ◌+◌, ◌≤◌, ◌<◌, ◌^◌, length};
 ghost use Rattle.notation.specs.Line as line;
 ghost use Rattle.mnemonics.specs.Rows as rows;

@@ -1,4 +1,6 @@
 // The lister: words to a text that assembles to them again.
+#![tactic(auto)]
+
 ghost use Rattle.std.specs.Prelude.{◌≡◌, ◌≤◌, leb, length};
 ghost use Rattle.text.specs.Text.{Appended};
 ghost use Rattle.notation.specs.Listing.{listing};

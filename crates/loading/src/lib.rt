@@ -1,4 +1,6 @@
 // Loading: a fresh machine of a console image, in lent memories; and how much of main memory it needs.
+#![tactic(auto)]
+
 ghost use Rattle.model.specs.State.{memory};
 ghost use Rattle.model.specs.Promises.{LeastMainPagesPromise, LoadPromise};
 

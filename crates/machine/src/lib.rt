@@ -1,6 +1,8 @@
 // The calls that a host makes on a machine: run, host read, host write, page view and reply. They ask nothing of their caller: each
 // takes the verdict on what it is handed, acts where nothing is refused, and names its complete outcome. `run_granted` is `run` behind
 // its verdict, for a caller that took it.
+#![tactic(auto)]
+
 ghost use Rattle.std.specs.Prelude.{◌≡◌};
 ghost use Rattle.model.specs.State.{state};
 ghost use Rattle.model.specs.Calls as calls;

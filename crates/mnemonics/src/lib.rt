@@ -1,6 +1,8 @@
 // The table of mnemonics in code: each row's name, word and pieces. specs/Table of `notation` has the rows, and `proofs/` the one test by
 // which the numbers below are theirs. A call makes the table once and lends it: an array that is a constant is put together anew
 // wherever it stands.
+#![tactic(auto)]
+
 ghost use Rattle.std.specs.Prelude.{◌≡◌, ◌+◌, ◌<◌, ◌≤◌, length, take, drop};
 ghost use Rattle.notation.specs.Line.{is_named};
 ghost use Rattle.notation.specs.Listing.{is_keyed};

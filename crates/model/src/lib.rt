@@ -1,4 +1,5 @@
 // The types of the paged console machine. What they mean stands in specs/.
+#![tactic(auto)]
 
 // Three page numbers occur: virtual, main (physical) and swap. Only the translation rules of specs/Pages turn one into another.
 #[derive(Clone, Copy)]

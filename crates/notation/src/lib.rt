@@ -1,4 +1,6 @@
 // The types of the makers' notation: mnemonics and sums in, words out, and back. What they mean stands in specs/.
+#![tactic(auto)]
+
 use model::Refusal;
 
 // What stands behind a mnemonic: a byte, or an operand. An operand's field begins at the bit that counts `scale`, holds `size` numbers,

@@ -1,4 +1,6 @@
 // `plain IMAGE_FILE`: a script of calls on standard input, done on the plain engine that the image is loaded into.
+#![tactic(auto)]
+
 ghost use Rattle.std.specs.Prelude.{◌≡◌, ◌≤◌, length};
 ghost use Rattle.talk.specs.Script.{lines_of, talk};
 ghost use Rattle.plainsession.specs.Desk.{desk, spoken};

@@ -1,4 +1,6 @@
 // One attempt at an instruction, on lent registers and one flat lent memory with a rights byte for each of its pages.
+#![tactic(auto)]
+
 pub mod rights;
 
 ghost use Rattle.std.specs.Prelude.{◌≡◌, true, false, List, ℕ};

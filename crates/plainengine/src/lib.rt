@@ -1,4 +1,6 @@
 // The run of the plain engine: one attempt after another, from code page to code page.
+#![tactic(auto)]
+
 ghost use Rattle.std.specs.Prelude.{◌≡◌, true, ◌+◌, ◌*◌, ◌/◌, ◌%◌, ◌<◌, eqb};
 ghost use Rattle.model.specs.Run.{run};
 ghost use Rattle.model.specs.Flat.{flat_instruction};

@@ -1,1 +1,2 @@
 // Theorems about the plain engine's definitions. They stand in proofs/.
+#![tactic(auto)]

@@ -1,4 +1,6 @@
 // Loading into the plain engine: a fresh machine of a console image, in a lent memory with a rights byte for each of its pages.
+#![tactic(auto)]
+
 ghost use Rattle.plainmodel.specs.Promises.{LoadPromise};
 
 use model::{ImageAnswer, Refusal, Verdict};

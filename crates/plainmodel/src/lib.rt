@@ -1,4 +1,6 @@
 // The types of the plain engine: one flat lent memory with a rights byte for each of its pages. What they mean stands in specs/.
+#![tactic(auto)]
+
 use model::{Pcs, Refusal, Stop, Verdict};
 
 // The record: ptl, GPR 0 to 31, DPC and PC'.

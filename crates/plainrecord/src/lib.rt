@@ -1,5 +1,7 @@
 // The plain engine's record as words: where each field stands, a record read from its words, its words written, and one word set. Hosts
 // in C and the tester's script know the record by these places; specs/Words names them too.
+#![tactic(auto)]
+
 ghost use Rattle.std.specs.Prelude.{◌≡◌, ◌++◌, ◌<◌, length};
 ghost use Rattle.plainmodel.specs.Calls.{with_register};
 ghost use Rattle.plainrecord.specs.Words as words;

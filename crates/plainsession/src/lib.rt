@@ -1,5 +1,7 @@
 // A session of `plain`: the image is loaded into the plain engine, then every line of the script is done in turn. What is said goes into a
 // lent buffer, a stretch at a time; the program writes it out.
+#![tactic(auto)]
+
 pub mod calls;
 mod step;
 pub mod table;

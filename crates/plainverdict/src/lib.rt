@@ -1,5 +1,7 @@
 // What each call of the plain engine refuses: "3 and 4 as in document 01, 1 for ptl or a lent length, 2 only for GPR 0 not 0 or a
 // rights byte above 3". "The first that applies in the order 1, 2, 4, 3 is given", "for reply only 4".
+#![tactic(auto)]
+
 mod permission;
 
 ghost use Rattle.std.specs.Prelude.{◌≡◌, [], ◌≤◌, length};

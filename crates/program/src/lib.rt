@@ -1,4 +1,6 @@
 // The small program: what it writes for what it reads, as a function of bytes.
+#![tactic(auto)]
+
 ghost use Rattle.std.specs.Prelude.{◌≡◌, ◌≤◌, length};
 ghost use Rattle.model.specs.State.{memory, state};
 ghost use Rattle.model.specs.Answers.{refusal_number};

@@ -1,5 +1,7 @@
 // The record as words: where each field stands, a machine read from its words, its words written, and one word set. Hosts in C and
 // the tester's script know the record by these places; specs/Words names them too.
+#![tactic(auto)]
+
 ghost use Rattle.std.specs.Prelude.{◌≡◌, ◌++◌, ◌+◌, ◌≤◌, ◌<◌, length, set};
 ghost use Rattle.laws.specs.Over.{over};
 ghost use Rattle.record.specs.Words as words;

@@ -1,4 +1,6 @@
 // A line of a script, read into what it asks for: a word and its parts, each behind one space. specs/Table has the words.
+#![tactic(auto)]
+
 ghost use Rattle.script.specs.Promises.{ParsePromise};
 
 pub mod parts;

@@ -1,4 +1,6 @@
 // `series IMAGE_FILE MAIN_PAGES`: a script of calls on standard input, done on a machine that the image is loaded into.
+#![tactic(auto)]
+
 ghost use Rattle.std.specs.Prelude.{◌≡◌, ◌≤◌, length};
 ghost use Rattle.talk.specs.Script.{lines_of, talk};
 ghost use Rattle.session.specs.Desk.{desk, spoken};

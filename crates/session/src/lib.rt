@@ -1,5 +1,7 @@
 // A session of `series`: the image is loaded, then every line of the script is done in turn. What is said goes into a lent buffer, a
 // stretch at a time; the program writes it out.
+#![tactic(auto)]
+
 pub mod calls;
 mod shows;
 mod spare;

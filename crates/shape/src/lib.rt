@@ -1,4 +1,6 @@
 // Refusal 1, "a shape number or memory length breaks its bound": the tests that none does.
+#![tactic(auto)]
+
 ghost use Rattle.std.specs.Prelude.{◌≡◌};
 ghost use Rattle.model.specs.Sound as soundness;
 ghost use Rattle.model.specs.State.{memory};

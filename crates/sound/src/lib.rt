@@ -1,4 +1,6 @@
 // Refusal 2, "the machine is not sound": the tests that it is.
+#![tactic(auto)]
+
 mod clean;
 mod seats;
 

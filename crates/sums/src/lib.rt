@@ -1,5 +1,7 @@
 // A sum in a line of a maker's text. Sum and operand call each other in a cycle, measured by the bytes left; the terms of a sum go by a
 // loop, so that no line deepens the stack beyond its parentheses. A value v is kept as v + 2^31.
+#![tactic(auto)]
+
 ghost use Rattle.std.specs.Prelude.{◌≡◌, ◌<◌, ◌^◌};
 ghost use Rattle.notation.specs.Sums as sums;
 ghost use Rattle.sums.specs.Small.{Small};

@@ -1,4 +1,6 @@
 // Words and numbers put into a lent buffer from a place on, each answering with the place after what it put. `reading` reads them.
+#![tactic(auto)]
+
 ghost use Rattle.std.specs.Prelude.{◌≡◌, ◌+◌, ◌*◌, ◌^◌, ◌≤◌, ◌<◌, length};
 ghost use Rattle.model.specs.Console.{digits};
 ghost use Rattle.text.specs.Text as text;

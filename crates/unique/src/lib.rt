@@ -1,1 +1,2 @@
 // No two outcomes fit a promise, as a theorem: statements in specs/, theorems in proofs/.
+#![tactic(auto)]

@@ -1,4 +1,6 @@
 // Runs the worked values of document 01 that are not marked with *, compares each with what the paper says, and prints a line for it.
+#![tactic(auto)]
+
 use libc::STDOUT_FILENO;
 use model::{RunAnswer, RunResult, Stop};
 

@@ -1,4 +1,6 @@
 // What each call refuses: "The first that applies in the order 1, 2, 4, 3 is given", "for reply only 4".
+#![tactic(auto)]
+
 mod permission;
 
 ghost use Rattle.std.specs.Prelude.{◌≡◌, length};

@@ -1,4 +1,6 @@
 // Numbers and pages in lent bytes: "Words and halves are little endian", "Page size K = 4096".
+#![tactic(auto)]
+
 ghost use Rattle.std.specs.Prelude.{◌≡◌, ◌+◌, ◌*◌, ◌<◌, ◌≤◌, length};
 ghost use Rattle.model.specs.Bytes as bytes;
 ghost use Rattle.model.specs.Bytes.{number, store, page, with_page};

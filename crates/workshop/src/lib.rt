@@ -1,4 +1,6 @@
 // The programs `asm` and `list`: what each writes, to standard output and to descriptor 2, for what it reads, as a function of bytes.
+#![tactic(auto)]
+
 ghost use Rattle.std.specs.Prelude.{◌≡◌, ◌^◌, ◌≤◌, ◌<◌, length};
 ghost use Rattle.model.specs.Answers.{refusal_number};
 ghost use Rattle.model.specs.Console.{refused_line};

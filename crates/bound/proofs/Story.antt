@@ -39,7 +39,7 @@ module _ {o : Order} {a : ℕ} where
   story_join story_end s = rw zero-add s
   story_join (story_turn t s) z = rw add_assoc (story_turn t (story_join s z))
 
-  tell_turn : {q r : List VirtualPage} {d : Demand} {ds : List Demand} {n k : ℕ}
+  tell_turn : {d : Demand} {q r : List VirtualPage} {ds : List Demand} {n k : ℕ}
       → Turn o a d q n r → Told o a r (d ∷ ds) k → Told o a q (d ∷ ds) (n + k)
   tell_turn turn_end t = rw zero-add t
   tell_turn (turn_had p w i s) t =

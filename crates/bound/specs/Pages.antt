@@ -1,7 +1,7 @@
 -- Sets of virtual pages: the library's lists, with its membership, inclusion and lists in which nothing stands twice.
 use Rattle.std.specs.Prelude.{◌≡◌}
 use Rattle.std.proofs.Common.{ap}
-use Rattle.std.proofs.Math.Logic.{Dec.not}
+use Rattle.std.proofs.Math.Logic.Dec
 use mathlib.Core.List.{List, Mem, Subset, Nodup, dec_mem, insert, filter}
 use Rattle.std.proofs.Math.Decide.{ℕ_discrete}
 use Rattle.model.specs.Pages.{virtual}

@@ -2,5 +2,3 @@
 pub mod Parts
 pub mod Tests
 pub mod Accepted
-pub mod ByHand
-pub mod Section

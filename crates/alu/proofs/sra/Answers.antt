@@ -1,0 +1,8 @@
+-- `sra` is the unsigned shift and the fill.
+use Rattle.std.proofs.Common.{◌/◌, ◌^◌, ap, rules}
+use lib.Bits.{bit_or}
+use borrow.Author.Rules.{rules}
+use Rattle.alu.proofs.sra.Goals as goal
+
+pub returns : goal.returns
+returns c = ap (bit_or (c.args.x / 2 ^ c.args.n)) c.fill.ensures

@@ -1,0 +1,12 @@
+-- `sections::rights_by_answer`: the section of an accepted image, or an empty part.
+use mathlib.Core.Path.{refl, sym, ap}
+use Rattle.laws.proofs.Parts.{cut_none}
+use Rattle.image.specs.Sections.{rights_by_answer}
+use borrow.Author.Rules.{rules}
+use Rattle.image.proofs.sections.rights_by_answer.Goals as goal
+
+pub returns-in-Image : goal.returns-in-Image
+returns-in-Image c = rw c.answer-1.given.1 c.rights_of.ensures
+
+pub returns-in-NotImage : goal.returns-in-NotImage
+returns-in-NotImage c = cut_none _ _ _ refl (sym (ap (rights_by_answer _) c.enum_told-1.given.1)) (search rules) refl

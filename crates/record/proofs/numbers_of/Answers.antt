@@ -1,0 +1,25 @@
+-- `numbers_of`: after i turns the first i have come.
+use mathlib.Core.Path.{sym}
+use Prim.Native.Nat.{◌≤◌, ◌-◌}
+use native.Mathlib.Omega.{arith}
+use lib.ListN.{length-map}
+use Rattle.model.specs.declared.VirtualPage.{VirtualPage}
+use Rattle.words.proofs.Copies.{Copied, copied_none, copied_next, copied_all}
+use Rattle.record.specs.Words.{numbers_of}
+use Rattle.record.proofs.Parts.{number_at}
+use borrow.Author.Rules.{rules}
+use Rattle.record.proofs.numbers_of.Goals as goal
+
+pub loop-i-init : goal.loop-i-init
+loop-i-init c = (omega arith, copied_none _ _)
+
+pub loop-i-preserved : goal.loop-i-preserved
+loop-i-preserved c =
+    let i = c.loop-i.i in
+    let l = c.args.held in
+    (omega arith, copied_next _ _ _ i c.loop-i.invariant.1 (omega arith) (omega (arith, length-map l (λ (p : VirtualPage). p.0))) 0 _ (sym (number_at l i)))
+
+pub returns : goal.returns
+returns c =
+    let l = c.args.held in
+    copied_all _ _ _ c.loop-i.i c.loop-i.invariant.1 (omega (arith, length-map l (λ (p : VirtualPage). p.0))) (omega arith)

@@ -1,0 +1,17 @@
+-- `reading::put_bytes`: after k turns the first k bytes stand in the buffer.
+use mathlib.Core.Path.{◌≡◌, refl, sym, ap, ◌∙◌}
+use Prim.Native.Nat.{◌+◌, ◌-◌, ◌*◌, ◌≤◌, ◌/◌}
+use native.Mathlib.Omega.{arith}
+use lib.ListN.{length, get_or, set, length-set}
+use lib.Seq.{paste, paste-zero}
+use Rattle.laws.proofs.Over.{over_more, over_done}
+use Rattle.text.specs.Reading.{bytes_of}
+use Rattle.text.proofs.Pairs.{length-bytes_of, byte_at_lem}
+use Rattle.text.proofs.reading.put_bytes.Given as goal
+
+abbrev pub invariant-loop-k : goal.invariant-loop-k
+invariant-loop-k l =
+    (l.k ≤ length l.pairs / 2) × (length l.into ≡ length l.initial.into) × (l.into ≡ paste l.initial.into l.at (bytes_of l.pairs) l.k)
+
+abbrev pub decreases-loop-k : goal.decreases-loop-k
+decreases-loop-k l = length l.pairs / 2 - l.k

@@ -14,7 +14,7 @@ use Rattle.demands.specs.Refusals.{Row, ◌when◌, ◌unless◌, number, Applie
 -- no row both applies and does not
 apart : (r : Row) → Applies r → Passed r → ⊥
 apart (n when c) a p = p a
-apart (n unless k) a p = a p
+apart (◌unless◌ n k) a p = a p
 
 -- the test fails where the row applies, and passes where it does not
 pub record Tells (test : Bool) (r : Row) : Type 0 where
@@ -22,7 +22,7 @@ pub record Tells (test : Bool) (r : Row) : Type 0 where
   pub passes : test ≡ true → Passed r
 
 -- a test that passes exactly where the rule is kept
-pub tells_unless : {test : Bool} {n : ℕ} {rule : Type 0} → (test ≡ true → rule) → (rule → test ≡ true) → Tells test (n unless rule)
+pub tells_unless : {test : Bool} {n : ℕ} {rule : Type 0} → (test ≡ true → rule) → (rule → test ≡ true) → Tells test (◌unless◌ n rule)
 tells_unless to back = record { fails = λ e k. true≢false (sym (back k) ∙ e); passes = to }
 
 -- ---- the answer is the number of the first row that applies, or 0

@@ -19,12 +19,12 @@ use Rattle.demands.proofs.Decide.{Tells, First, first_unless, last_unless}
 use Rattle.demands.proofs.Told.{too_long_told, register_told, unknown_told, rule_told}
 
 -- 1 and 2, and then the call's own
-pub machine_first : (a b : Bool) (fits sound : Type 0) (v : Verdict) (own : List Row) → Tells a (1 unless fits)
-    → (a ≡ true → Tells b (2 unless sound)) → First (verdict_numbers v).refused own
-    → First (verdict_numbers ((unless) a Bound ((unless) b Unsound v))).refused (1 unless fits ∷ 2 unless sound ∷ own)
+pub machine_first : (a b : Bool) (fits sound : Type 0) (v : Verdict) (own : List Row) → Tells a (◌unless◌ 1 fits)
+    → (a ≡ true → Tells b (◌unless◌ 2 sound)) → First (verdict_numbers v).refused own
+    → First (verdict_numbers ((unless) a Bound ((unless) b Unsound v))).refused (◌unless◌ 1 fits ∷ ◌unless◌ 2 sound ∷ own)
 machine_first a b fits sound v own s t f =
-    first_unless a Bound _ (1 unless fits) (2 unless sound ∷ own) refl s
-    (λ q. first_unless b Unsound v (2 unless sound) own refl (t q) (λ r. f))
+    first_unless a Bound _ (◌unless◌ 1 fits) (◌unless◌ 2 sound ∷ own) refl s
+    (λ q. first_unless b Unsound v (◌unless◌ 2 sound) own refl (t q) (λ r. f))
 
 pub run_first : (n : ℕ) → First (verdict_numbers ((unless) (leb n 1000000) TooMuch Granted)).refused (4 when RunTooLong n ∷ [])
 run_first n =
@@ -44,13 +44,13 @@ transfer_first permitted n denied t =
 pub none_denied : {denied : ℕ → Type 0} → ¬ ((i : ℕ) × (i < 0) × denied i)
 none_denied d = omega (arith, d.1)
 
-pub reply_first : (i : ℕ) → First (verdict_numbers (reply_verdict i)).refused (4 unless Register i ∷ [])
+pub reply_first : (i : ℕ) → First (verdict_numbers (reply_verdict i)).refused (◌unless◌ 4 Register i ∷ [])
 unfolding reply_verdict
-reply_first i = last_unless (leb 1 i && leb i 31) TooMuch (4 unless Register i) refl (register_told i)
+reply_first i = last_unless (leb 1 i && leb i 31) TooMuch (◌unless◌ 4 Register i) refl (register_told i)
 
 pub image_first : (l : List ℕ) (v : Verdict) (own : List Row) → First (verdict_numbers v).refused own
     → First (verdict_numbers (image_verdict l v)).refused (image_rows l own)
 unfolding image_verdict
 image_first l v own f =
-    first_unless (known l) Edition _ (5 when UnknownImage l) (6 unless Formed l ∷ own) refl (unknown_told l)
-    (λ q. first_unless (well_formed l) Format v (6 unless Formed l) own refl (rule_told l) (λ s. f))
+    first_unless (known l) Edition _ (5 when UnknownImage l) (◌unless◌ 6 Formed l ∷ own) refl (unknown_told l)
+    (λ q. first_unless (well_formed l) Format v (◌unless◌ 6 Formed l) own refl (rule_told l) (λ s. f))

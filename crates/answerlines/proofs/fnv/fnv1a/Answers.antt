@@ -1,0 +1,40 @@
+-- `fnv::fnv1a`: what is left, from the sum so far, comes to the same; the exclusive or of two numbers of 32 bits has 32 bits.
+use mathlib.Core.Path.{◌≡◌, refl, ◌∙◌}
+use Prim.Native.Nat.{◌-◌, ◌≤◌, ◌<◌}
+use native.Mathlib.Omega.{arith}
+use lib.Bits.{xor_lt}
+use lib.ListN.{length, drop, get_or}
+use Rattle.answerlines.specs.Fnv.{mixed, fnv1a}
+use Rattle.answerlines.proofs.Mixing.{mixed_more, mixed_all}
+use borrow.Author.Rules.{rules}
+use Rattle.answerlines.proofs.fnv.fnv1a.Goals as goal
+
+cast-joined-2 : tie.Need-overflow-cast-joined-2 invariant-loop decreases-loop
+cast-joined-2 c =
+    let at-loop = c.before.before in
+    let start = at-loop.before in
+    let byte = c.shared-slice-known.given at-loop.loop.i in
+    omega (arith, xor_lt 32 at-loop.loop.sum (get_or start.args.bytes.now at-loop.loop.i 0) (omega (arith, at-loop.loop.invariant.1)) (omega (arith, byte)))
+
+pub loop-i-init : goal.loop-i-init
+loop-i-init c = (omega arith, omega arith, refl)
+
+pub overflow_cast-joined : goal.overflow_cast-joined
+overflow_cast-joined c =
+    omega (arith, c.shared_slice_known-1.given c.loop-i.i)
+
+pub overflow_mul-sum : goal.overflow_mul-sum
+overflow_mul-sum c =
+    let byte = c.shared_slice_known-1.given c.loop-i.i in
+    omega (arith, xor_lt 32 c.loop-i.sum (get_or c.args.bytes.now c.loop-i.i 0) (omega (arith, c.loop-i.invariant.1)) (omega (arith, byte)))
+
+pub loop-i-preserved : goal.loop-i-preserved
+unfolding mixed
+loop-i-preserved c =
+    let v = c.loop-i in
+    (omega arith, omega arith, mixed_more v.sum c.args.bytes.now v.i (omega arith) ∙ v.invariant.2)
+
+pub returns : goal.returns
+returns c =
+    let v = c.loop-i in
+    mixed_all v.sum c.args.bytes.now v.i (omega arith) ∙ v.invariant.2

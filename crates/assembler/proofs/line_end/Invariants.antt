@@ -1,0 +1,14 @@
+-- `line_end`: the bytes before i lie within the line.
+use mathlib.Core.Path.{◌≡◌, refl, ◌∙◌}
+use Prim.Native.Nat.{◌-◌, ◌≤◌}
+use native.Mathlib.Omega.{arith}
+use lib.ListN.{length}
+use Rattle.assembler.specs.Passes.{line_end}
+use Rattle.assembler.proofs.Lines.{end_newline, end_text, end_further}
+use Rattle.assembler.proofs.line_end.Given as goal
+
+abbrev pub invariant-loop-i : goal.invariant-loop-i
+invariant-loop-i l = (l.at ≤ l.i) × (l.i ≤ length l.text) × (line_end l.text l.i ≡ line_end l.text l.at)
+
+abbrev pub decreases-loop-i : goal.decreases-loop-i
+decreases-loop-i l = length l.text - l.i

@@ -1,0 +1,12 @@
+-- `write`: the words of the lines before `at` stand in the output.
+use Prim.Native.Nat.{◌-◌}
+use native.Mathlib.Omega.{arith}
+use lib.ListN.{length}
+use Rattle.assembler.proofs.Passes.{Written, no_room, write_none, write_end, write_room, write_more}
+use Rattle.assembler.proofs.write.Given as goal
+
+abbrev pub invariant-loop-at : goal.invariant-loop-at
+invariant-loop-at l = Written l.text l.initial.out l.lines l.at l.n l.out
+
+abbrev pub decreases-loop-at : goal.decreases-loop-at
+decreases-loop-at l = length l.text - l.at

@@ -1,0 +1,20 @@
+-- `access::loaded` goes by what the access came to.
+use Rattle.cpu.specs.Reach.{loaded}
+use borrow.Author.Rules.{rules}
+use Rattle.cpu.proofs.access.loaded.Goals as goal
+
+pub returns-in-Misaligned : goal.returns-in-Misaligned
+unfolding loaded
+returns-in-Misaligned c = rw c.enum_told-1.given.1
+
+pub returns-in-Illegal : goal.returns-in-Illegal
+unfolding loaded
+returns-in-Illegal c = rw c.enum_told-in-Illegal-1.given.1
+
+pub returns-in-Fault : goal.returns-in-Fault
+unfolding loaded
+returns-in-Fault c = rw c.enum_told-in-Fault-1.given.1
+
+pub returns-in-At : goal.returns-in-At
+unfolding loaded
+returns-in-At c = rw (c.enum_told-in-At-1.given.1, c.pcs_onward.ensures)

@@ -1,0 +1,20 @@
+-- `access::stored` goes by what the access came to.
+use Rattle.cpu.specs.Reach.{stored}
+use borrow.Author.Rules.{rules}
+use Rattle.cpu.proofs.access.stored.Goals as goal
+
+pub returns-in-Misaligned : goal.returns-in-Misaligned
+unfolding stored
+returns-in-Misaligned c = rw c.enum_told-1.given.1
+
+pub returns-in-Illegal : goal.returns-in-Illegal
+unfolding stored
+returns-in-Illegal c = rw c.enum_told-in-Illegal-1.given.1
+
+pub returns-in-Fault : goal.returns-in-Fault
+unfolding stored
+returns-in-Fault c = rw c.enum_told-in-Fault-1.given.1
+
+pub returns-in-At : goal.returns-in-At
+unfolding stored
+returns-in-At c = rw (c.r-1.given.1, c.pcs_onward.ensures)

@@ -1,0 +1,10 @@
+-- `unfetched`: what the fetch comes to ends the attempt.
+use mathlib.Core.Path.{sym, ◌∙◌}
+use Rattle.cpu.proofs.Ways.{placed, attempt_ended}
+use borrow.Author.Rules.{rules}
+use Rattle.cpu.proofs.unfetched.Goals as goal
+
+pub returns : goal.returns
+returns c =
+    attempt_ended _ _ _ _ _ c.reach.ensures
+    (λ i at. c.requires.1 i (placed _ _ _ i (sym c.reach.ensures ∙ at)).at) _ c.loaded.ensures

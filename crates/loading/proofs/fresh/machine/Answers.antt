@@ -1,0 +1,10 @@
+-- `fresh::machine`: the fresh record, of every file with these numbers.
+use Rattle.std.proofs.Common.{◌∙◌, rules}
+use Rattle.model.specs.Image.{fresh}
+use borrow.Author.Rules.{rules}
+use Rattle.loading.proofs.fresh.machine.Goals as goal
+
+pub returns : goal.returns
+unfolding fresh
+returns c =
+    c.blank.ensures ∙ simp (c.meant.ensures, c.wrapping_add_u32.ensures, frames, ptl, start)

@@ -1,0 +1,8 @@
+-- `fresh::refused`: the record of zeros.
+use Rattle.std.proofs.Common.{ap, rules}
+use Rattle.model.specs.declared.Verdict.TheVariants.{Refused}
+use borrow.Author.Rules.{rules}
+use Rattle.loading.proofs.fresh.refused.Goals as goal
+
+pub returns : goal.returns
+returns c = ap (λ m. record { machine = m; verdict = Refused c.args.refusal }) c.blank.ensures

@@ -1,0 +1,14 @@
+-- `memory::put_entries`: the entries of the first x pages have come.
+use Rattle.std.proofs.Common.{◌≡◌, ◌-◌, ◌*◌, ◌≤◌, ◌++◌, length, take, drop, refl, ap, ◌∙◌, arith, rules}
+use Rattle.model.specs.Bytes.{store}
+use Rattle.model.specs.Image.{invalid_entry, invalid_entries}
+use Rattle.laws.proofs.Bytes.{length-store}
+use Rattle.loading.proofs.Filled.{entries_step, entries_all}
+use Rattle.loading.proofs.memory.put_entries.Given as goal
+
+abbrev pub invariant-loop-x : goal.invariant-loop-x
+invariant-loop-x l =
+    (l.x ≤ length l.rights) × (length l.main ≡ length l.initial.main) × (l.main ≡ invalid_entries (take l.x l.rights) ++ drop (4 * l.x) l.initial.main)
+
+abbrev pub decreases-loop-x : goal.decreases-loop-x
+decreases-loop-x l = length l.rights - l.x

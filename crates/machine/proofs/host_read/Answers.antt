@@ -1,0 +1,22 @@
+-- `host_read`: refused, or the buffer is filled.
+use Rattle.model.specs.State.{state}
+use Rattle.machine.proofs.Outcomes.{read_refused, read_done}
+use Rattle.host.proofs.Leans.{host_leans}
+use Rattle.machine.proofs.Length.{held_length}
+use borrow.Author.Rules.{rules}
+use Rattle.machine.proofs.host_read.Goals as goal
+
+pub read_bytes-requires : goal.read_bytes-requires
+read_bytes-requires c =
+    let a = c.args in
+    host_leans (state a.m a.main.now a.swap.now) (held_length a.m _ c.well_formed.0) _ _ _ _
+    c.host_verdict.ensures c.enum_told-1.given.1
+
+pub returns-in-Refused : goal.returns-in-Refused
+returns-in-Refused c = read_refused _ _ _ _ c.host_verdict.ensures _ c.r-1.given.1
+
+pub returns-in-Granted : goal.returns-in-Granted
+returns-in-Granted c =
+    let a = c.args in
+    read_done (state a.m a.main.now a.swap.now) _ _ _ c.host_verdict.ensures c.enum_told-1.given.1 _
+    c.read_bytes.ensures

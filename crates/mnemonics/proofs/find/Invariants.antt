@@ -1,0 +1,15 @@
+-- `find`: the number is at none of the first i places of the part.
+use mathlib.Core.Path.{◌≡◌}
+use mathlib.Core.List.{List}
+use Prim.Native.Nat.{ℕ, ◌+◌, ◌-◌, ◌≤◌}
+use native.Mathlib.Omega.{arith}
+use lib.ListN.{take, drop}
+use Rattle.mnemonics.specs.Rows.{first_in}
+use Rattle.mnemonics.proofs.Tabled.{first_here, first_further, first_nowhere, length_part, part_at}
+use Rattle.mnemonics.proofs.find.Given as goal
+
+abbrev pub invariant-loop-i : goal.invariant-loop-i
+invariant-loop-i l = (l.i ≤ 49) × (first_in (part l.t l.from) l.key ≡ l.i + first_in (drop l.i (part l.t l.from)) l.key)
+
+abbrev pub decreases-loop-i : goal.decreases-loop-i
+decreases-loop-i l = 49 - l.i

@@ -1,0 +1,7 @@
+-- `fresh::plain`: the fresh record.
+use Rattle.std.proofs.Common.{rules}
+use borrow.Author.Rules.{rules}
+use Rattle.plainloading.proofs.fresh.plain.Goals as goal
+
+pub returns : goal.returns
+returns c = simp c.wrapping_add_u32.ensures

@@ -1,0 +1,35 @@
+-- `clean::frames_clean`: the pages of the first f frames have their marks, or equal their swap pages.
+use mathlib.Core.Path.{◌≡◌}
+use mathlib.Core.Bool.{true}
+use Prim.Native.Nat.{◌≤◌, ◌-◌}
+use Rattle.model.specs.Choice.{every_below}
+use Rattle.model.specs.State.{memory}
+use Rattle.model.specs.Sound.{clean}
+use Rattle.book.specs.Numbers.{book_of}
+use Rattle.sound.proofs.Loops.{none_yet, one_more, fails, all_passed, failed, passed}
+use Rattle.sound.proofs.Pages.{held_below, in_book}
+use borrow.Author.Rules.{rules}
+use Rattle.sound.proofs.clean.frames_clean.Goals as goal
+
+pub loop-f-init : goal.loop-f-init
+loop-f-init c = (search rules, none_yet _)
+
+pub clean-requires : goal.clean-requires
+clean-requires c =
+    let a = c.args in
+    (c.requires.0, c.requires.1, search rules, held_below a.s a.main.now a.swap.now a.marks a.used a.held.now c.loop-f.f (c.requires.4 0 a.marks) (search rules))
+
+pub returns-then-not-clean : goal.returns-then-not-clean
+returns-then-not-clean c =
+    let a = turn.before.before.before.before.args in
+    λ hand. fails _ _ c.loop-f.f (search rules)
+    (failed _ _ (in_book a.s a.main.now a.swap.now a.marks a.used a.held.now c.loop-f.f _ c.clean.ensures) c.if1.true)
+
+pub loop-f-preserved : goal.loop-f-preserved
+loop-f-preserved c =
+    let a = c.args in
+    (search rules, one_more _ _ c.loop-f.invariant.1 (passed _ _ (in_book a.s a.main.now a.swap.now a.marks a.used a.held.now c.loop-f.f _ c.clean.ensures) c.if-not-clean.false))
+
+pub returns : goal.returns
+returns c =
+    λ hand. all_passed _ _ _ c.loop-f.invariant.1 (search rules) (search rules)

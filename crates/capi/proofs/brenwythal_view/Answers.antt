@@ -1,0 +1,20 @@
+-- `brenwythal_view`: a record or a buffer of another length, a refusal, or the page.
+use Rattle.capi.proofs.Views.{view_short, view_narrow, view_refused, view_done}
+use borrow.Author.Rules.{rules}
+use Rattle.capi.proofs.brenwythal_view.Goals as goal
+
+pub returns-then-words-ne-RECORD : goal.returns-then-words-ne-RECORD
+returns-then-words-ne-RECORD c = view_short _ _ _ _ _ (search rules)
+
+pub returns-then-into-ne-PAGE : goal.returns-then-into-ne-PAGE
+returns-then-into-ne-PAGE c = view_narrow _ _ _ _ _ (search rules) (search rules)
+
+pub returns-then-part-lt-PAGE : goal.returns-then-part-lt-PAGE
+returns-then-part-lt-PAGE c =
+    view_refused _ _ _ _ _ (search rules) (search rules) _ c.machine_of-m.ensures _ c.page_view-part.ensures.bytes
+    (search rules) c.view_answer.result c.view_answer.ensures _ c.verdict_number.ensures
+
+pub returns : goal.returns
+returns c =
+    view_done _ _ _ _ _ (search rules) (search rules) _ c.machine_of-m.ensures _ c.page_view-part.ensures.bytes
+    (search rules) _ c.copy_page.ensures

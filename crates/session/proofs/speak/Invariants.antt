@@ -1,0 +1,19 @@
+-- `speak`: between two lines, what is said and what is still to be said are together what was to be said.
+use Prim.Native.Nat.{◌-◌}
+use native.Mathlib.Omega.{arith}
+use lib.ListN.{length, drop, length-take}
+use Rattle.text.proofs.Appending.{within, length_appended}
+use Rattle.talk.specs.Stretch.{point}
+use Rattle.talk.proofs.Talking.{Between, at_first, line_left, answer_fits, goes_on, ends, done}
+use Rattle.session.specs.Desk.{desk, spoken}
+use Rattle.session.specs.Ready.{Room, Lent}
+use Rattle.session.proofs.Roomy.{room_kept}
+use Rattle.session.proofs.speak.Given as goal
+
+abbrev pub invariant-loop-place : goal.invariant-loop-place
+invariant-loop-place l =
+    Between spoken l.script l.initial.out (point l.initial.number (desk l.initial.at l.initial.main l.initial.swap) l.initial.place) l.out (point l.number (desk l.at l.main l.swap) l.place) l.filled
+    × Lent l.at × Room l.main l.swap l.out
+
+abbrev pub decreases-loop-place : goal.decreases-loop-place
+decreases-loop-place l = length l.script - l.place

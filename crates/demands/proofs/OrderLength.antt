@@ -10,11 +10,12 @@ use lib.ListN.{length, length-append}
 use Rattle.model.specs.Choice.{if◌then◌else◌}
 use Rattle.model.specs.Words.{aligned}
 use Rattle.model.specs.Bytes.{number}
+use Rattle.model.specs.Pages.{page_of}
 use Rattle.model.specs.Instruction.{plan}
 use Rattle.model.specs.Attempt.{Tried, Width, byte, half, word, size, stopped, accessed, transfer, obey_load, obey_store, obey, attempt}
 use Rattle.model.specs.Run.{Step, goes, stops, answered, run}
 use Rattle.model.specs.Flat.{Flat, allow, flat_put, flat_instruction}
-use Rattle.model.specs.Order.{Demand, demand_of, onwards, order_of}
+use Rattle.model.specs.Order.{Demand, demand_by, demand_of, onwards, order_of}
 use Rattle.model.specs.Answers.{stop_number}
 use Rattle.model.specs.declared.Pcs.{Pcs}
 use Rattle.model.specs.declared.Access.{Access}

@@ -44,13 +44,13 @@ transfer_first permitted n denied t =
 pub none_denied : {denied : ℕ → Type 0} → ¬ ((i : ℕ) × (i < 0) × denied i)
 none_denied d = omega (arith, d.1)
 
-pub reply_first : (i : ℕ) → First (verdict_numbers (reply_verdict i)).refused (◌unless◌ 4 Register i ∷ [])
+pub reply_first : (i : ℕ) → First (verdict_numbers (reply_verdict i)).refused (◌unless◌ 4 (Register i) ∷ [])
 unfolding reply_verdict
-reply_first i = last_unless (leb 1 i && leb i 31) TooMuch (◌unless◌ 4 Register i) refl (register_told i)
+reply_first i = last_unless (leb 1 i && leb i 31) TooMuch (◌unless◌ 4 (Register i)) refl (register_told i)
 
 pub image_first : (l : List ℕ) (v : Verdict) (own : List Row) → First (verdict_numbers v).refused own
     → First (verdict_numbers (image_verdict l v)).refused (image_rows l own)
 unfolding image_verdict
 image_first l v own f =
-    first_unless (known l) Edition _ (5 when UnknownImage l) (◌unless◌ 6 Formed l ∷ own) refl (unknown_told l)
-    (λ q. first_unless (well_formed l) Format v (◌unless◌ 6 Formed l) own refl (rule_told l) (λ s. f))
+    first_unless (known l) Edition _ (5 when UnknownImage l) (◌unless◌ 6 (Formed l) ∷ own) refl (unknown_told l)
+    (λ q. first_unless (well_formed l) Format v (◌unless◌ 6 (Formed l)) own refl (rule_told l) (λ s. f))

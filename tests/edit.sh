@@ -1,5 +1,28 @@
-# Edits of crates, for the tests that source this file: lines 'file: PATH', 'old: TEXT' and 'new: TEXT', as rt's must-fail edits have
-# them. A file holds for the pairs of old and new behind it.
+# shellcheck shell=sh
+# Edits of crates, for the tests that source this file, with the repository's folder in $root: lines 'file: PATH', 'old: TEXT' and
+# 'new: TEXT', as rt's must-fail edits have them. A file holds for the pairs of old and new behind it.
+
+# A folder with the repository's crates, and what rt has kept of them: what was proved by links, which a check replaces and does not
+# change, and copies of all else.
+roomed() { # ROOM
+    rm -rf "$1"
+    mkdir -p "$1"
+    cp "$root/crates.txt" "$1/"
+    cp -al "$root/crates" "$1/crates"
+    (cd "$root/crates" && find . -type f ! -name '*.oantt' -print0 | tar cf - --null -T -) | (cd "$1/crates" && tar xf - --unlink-first)
+}
+
+# The crate that a check in a room came to last, by the check's log.
+last() { # LOG
+    sed -n 's/^rt: chose --jobs [0-9]* for //p' "$1" | tail -n 1
+}
+
+# How many checks there are to be at a time.
+jobs() {
+    n=$(nproc 2>/dev/null || echo 1)
+    [ "$n" -le 4 ] || n=4
+    echo "$n"
+}
 
 # Puts $new in the place of $old, which must stand once in the file $1.
 replaced() { # FILE

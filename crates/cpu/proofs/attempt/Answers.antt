@@ -20,10 +20,10 @@ word_at-w-requires c =
 
 pub obey-requires : goal.obey-requires
 obey-requires c =
-    (planned.before.before.before.before.before.before.before.requires.0, register_below _ _ _ _ c.plan-t.ensures)
+    (c.requires.0, register_below _ _ _ _ c.plan-t.ensures)
 
 pub returns : goal.returns
 returns c =
     attempt_at _ _ _ _ _
-    (reach_even 4 _ _ (search rules) _ (covered _ _ _ start.requires.1 _ (search rules) start.requires.2 _ c.main_at.ensures) _ refl) _
+    (reach_even 4 _ _ (search rules) _ (covered _ _ _ c.requires.1 _ (search rules) c.requires.2 _ c.main_at.ensures) _ refl) _
     c.word_at-w.ensures _ c.plan-t.ensures _ c.obey.ensures

@@ -6,5 +6,6 @@ use Rattle.cpu.proofs.unfetched.Goals as goal
 
 pub returns : goal.returns
 returns c =
-    attempt_ended _ _ _ _ _ c.reach.ensures
+    λ gpr.
+    attempt_ended _ gpr _ _ _ c.reach.ensures
     (λ i at. c.requires.1 i (placed _ _ _ i (sym c.reach.ensures ∙ at)).at) _ c.loaded.ensures

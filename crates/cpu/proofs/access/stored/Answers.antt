@@ -5,16 +5,16 @@ use Rattle.cpu.proofs.access.stored.Goals as goal
 
 pub returns-in-Misaligned : goal.returns-in-Misaligned
 unfolding stored
-returns-in-Misaligned c = rw c.enum_told-1.given.1
+returns-in-Misaligned c = rw c.in-Misaligned.is
 
 pub returns-in-Illegal : goal.returns-in-Illegal
 unfolding stored
-returns-in-Illegal c = rw c.enum_told-in-Illegal-1.given.1
+returns-in-Illegal c = rw c.in-Illegal.is
 
 pub returns-in-Fault : goal.returns-in-Fault
 unfolding stored
-returns-in-Fault c = rw c.enum_told-in-Fault-1.given.1
+returns-in-Fault c = rw c.in-Fault.is
 
 pub returns-in-At : goal.returns-in-At
 unfolding stored
-returns-in-At c = rw (c.r-1.given.1, c.pcs_onward.ensures)
+returns-in-At c = rw (c.in-At.is, c.pcs_onward.ensures)

@@ -6,12 +6,13 @@ use Rattle.cpu.proofs.code.find.Goals as goal
 
 pub entry-requires : goal.entry-requires
 entry-requires c =
-    (search rules, in_table _ _ _ _ c.page_of-x.ensures _ c.locate-a.ensures _ c.enum_told-1.given.1)
+    (search rules, in_table _ _ _ _ c.page_of-x.ensures _ c.in-At.ensures _ refl)
 
 pub returns-in-At : goal.returns-in-At
 returns-in-At c =
-    stands _ _ _ _ c.page_of-x.ensures _ c.locate-a.ensures _ c.enum_told-1.given.1 _
+    stands _ _ _ _ c.page_of-x.ensures _ c.in-At.ensures _ refl _
     c.entry.ensures _ c.ppx.ensures
 
 pub returns-in_default : goal.returns-in_default
-returns-in_default c = nowhere _ _ _ _ c.locate-a.ensures (λ i e. no_place refl (rw e at c.in_default.keys2)) (record { 0 = 1048576 }) refl (record { 0 = 0 })
+returns-in_default c = let h = c.in_default.not-At in
+    nowhere _ _ _ _ c.locate-a.ensures ? (record { 0 = 1048576 }) refl (record { 0 = 0 })

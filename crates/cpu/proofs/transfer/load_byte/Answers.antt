@@ -1,26 +1,26 @@
 -- `transfer::load_byte`: at a place, or not.
-use mathlib.Core.Logic.{⊎_elim}
 use mathlib.Core.Path.{refl}
 use native.Mathlib.Omega.{arith}
 use Rattle.model.specs.Attempt.{byte}
 use Rattle.laws.proofs.Bytes.{number_below}
-use Rattle.cpu.proofs.Ways.{elsewhere, load_at, load_ended}
+use Rattle.cpu.proofs.Ways.{load_at, load_ended}
 use borrow.Author.Rules.{rules}
 use Rattle.cpu.proofs.transfer.load_byte.Goals as goal
+use Rattle.cpu.proofs.transfer.load_byte.Goals.{then-signed, else-signed}
 
 pub byte_at-x-requires : goal.byte_at-x-requires
-byte_at-x-requires c = c.requires.0 _ c.r-1.given.1
+byte_at-x-requires c = c.requires.0 _ c.in-At.is
 
 pub sext8-requires : goal.sext8-requires
 sext8-requires c =
     rw c.byte_at-x.ensures
-    (number_below c.args.m.now (λ k. omega (arith, c.shared_slice_known-1.given k)) 1 c.r-1.given.0.0)
+    (number_below c.args.m.now (λ k. omega (arith, c.type_inv.m k)) 1 _)
 
 pub returns-after-signed : goal.returns-after-signed
 returns-after-signed c =
-    load_at byte _ _ _ _ _ _ _ _ c.r-1.given.1 _ c.byte_at-x.ensures _
-    (⊎_elim (λ k. simp (k.2, k.1.ensures, k.0.taken)) (λ k. simp (k.1, k.0.left)) c.if-signed.branch)
+    load_at byte _ _ _ _ _ _ _ _ c.in-At.is _ c.byte_at-x.ensures _
+    (elim c.if-signed.branch [ then-signed w ↦ ? | else-signed w ↦ ? ])
     _ c.write.ensures _ c.loaded.ensures
 
 pub returns-in_default : goal.returns-in_default
-returns-in_default c = load_ended byte _ _ _ _ _ _ _ (λ i e. elsewhere refl (rw e at c.in_default.keys2)) _ c.loaded-in_default.ensures
+returns-in_default c = load_ended byte _ _ _ _ _ _ _ ? _ c.loaded-in_default.ensures

@@ -2,17 +2,17 @@
 use mathlib.Core.Path.{refl}
 use mathlib.Core.Bool.{false}
 use Rattle.model.specs.Attempt.{word}
-use Rattle.cpu.proofs.Ways.{elsewhere, load_at, load_ended}
+use Rattle.cpu.proofs.Ways.{load_at, load_ended}
 use borrow.Author.Rules.{rules}
 use Rattle.cpu.proofs.transfer.load_word.Goals as goal
 
 pub word_at-requires : goal.word_at-requires
-word_at-requires c = c.requires.0 _ c.r-1.given.1
+word_at-requires c = c.requires.0 _ c.in-At.is
 
 pub returns-in-At : goal.returns-in-At
 returns-in-At c =
-    load_at word _ _ _ _ _ false _ _ c.r-1.given.1 _ c.word_at.ensures _ refl
+    load_at word _ _ _ _ _ false _ _ c.in-At.is _ c.word_at.ensures _ refl
     _ c.write.ensures _ c.loaded.ensures
 
 pub returns-in_default : goal.returns-in_default
-returns-in_default c = load_ended word _ _ _ _ _ false _ (λ i e. elsewhere refl (rw e at c.in_default.keys2)) _ c.loaded-in_default.ensures
+returns-in_default c = load_ended word _ _ _ _ _ false _ ? _ c.loaded-in_default.ensures

@@ -1,11 +1,10 @@
 -- `branch` goes to its target where it is taken.
-use Rattle.std.proofs.Common.{⊎_elim, rules}
-use borrow.Author.Rules.{rules}
 use Rattle.dlx.proofs.decode.branch.Goals as goal
+use Rattle.dlx.proofs.decode.branch.Goals.{then-taken, else-taken}
 
 pub returns : goal.returns
 returns c =
-    ⊎_elim
-    (λ k. simp (c.jump.ensures, k.2, k.1.ensures, k.0.taken))
-    (λ k. simp (c.jump.ensures, k.2, k.1.ensures, k.0.left))
-    c.if-taken.branch
+    elim c.if-taken.branch [
+      | then-taken w ↦ simp (c.jump.ensures, w.target-is, w.wrapping_add_u32-target.ensures.value, w.if-taken.true)
+      | else-taken w ↦ simp (c.jump.ensures, w.target-is, w.onward-target.ensures, w.if-taken.false)
+    ]

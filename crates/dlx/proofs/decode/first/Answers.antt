@@ -1,6 +1,4 @@
 -- `first` is the value of RS1.
-use Rattle.std.proofs.Common.{rules}
-use borrow.Author.Rules.{rules}
 use Rattle.dlx.proofs.decode.first.Goals as goal
 
 pub returns : goal.returns

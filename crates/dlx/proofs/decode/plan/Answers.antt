@@ -1,7 +1,6 @@
 -- `plan` asks for opcode 0 apart: it is the opcode of the words below 2^26.
-use Rattle.std.proofs.Common.{arith, rules, eq-eqb, ne_eqb}
+use Rattle.std.proofs.Common.{arith, eq-eqb, ne_eqb}
 use Rattle.model.specs.Instruction.{plan, opcode}
-use borrow.Author.Rules.{rules}
 use Rattle.dlx.proofs.decode.plan.Goals as goal
 
 pub returns-then-w-ge67108864 : goal.returns-then-w-ge67108864

@@ -1,6 +1,4 @@
 -- `second` is the value of RD.
-use Rattle.std.proofs.Common.{rules}
-use borrow.Author.Rules.{rules}
 use Rattle.dlx.proofs.decode.second.Goals as goal
 
 pub returns : goal.returns

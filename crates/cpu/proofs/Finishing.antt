@@ -11,6 +11,7 @@ use Rattle.model.specs.contracts.Outcome.{the_type}
 use Rattle.model.specs.Attempt.{attempt}
 use Rattle.model.specs.declared.Pcs.{Pcs}
 use Rattle.model.specs.declared.Access.{Access}
+use Rattle.model.specs.declared.Stop.{Stop}
 use Rattle.model.specs.declared.Outcome.{Outcome}
 use Rattle.model.specs.declared.Outcome.TheVariants.{Done, Wrote, Trapped, Missing, Stopped}
 use Rattle.laws.proofs.Agree.{Finishes, done, wrote}
@@ -37,6 +38,22 @@ finished (Wrote q i) k = tt
 finished (Trapped q n) k = ⊎_elim (λ e. omega (arith, e)) (λ e. omega (arith, e)) k
 finished (Missing va) k = ⊎_elim (λ e. omega (arith, e)) (λ e. omega (arith, e)) k
 finished (Stopped s) k = ⊎_elim (λ e. omega (arith, e)) (λ e. omega (arith, e)) k
+
+-- ---- by the variants that it is not
+pub unfinished_not : (o : Outcome) → ((q : Pcs) → o ≡ Done q → ⊥) → ((q : Pcs) (i : ℕ) → o ≡ Wrote q i → ⊥) → ¬ Finished o
+unfinished_not (Done q) d w = λ f. d q refl
+unfinished_not (Wrote q i) d w = λ f. w q i refl
+unfinished_not (Trapped q n) d w = λ f. f
+unfinished_not (Missing va) d w = λ f. f
+unfinished_not (Stopped s) d w = λ f. f
+
+pub finished_not : (o : Outcome) → ((q : Pcs) (n : ℕ) → o ≡ Trapped q n → ⊥) → ((va : ℕ) → o ≡ Missing va → ⊥)
+    → ((s : Stop) → o ≡ Stopped s → ⊥) → Finished o
+finished_not (Done q) t m s = tt
+finished_not (Wrote q i) t m s = tt
+finished_not (Trapped q n) t m s = absurd (t q n refl)
+finished_not (Missing va) t m s = absurd (m va refl)
+finished_not (Stopped k) t m s = absurd (s k refl)
 
 -- ---- by the way
 pub finishes_finished : {o : Outcome} → Finishes o → Finished o

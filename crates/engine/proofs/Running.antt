@@ -25,7 +25,7 @@ use Rattle.model.specs.declared.Outcome.TheVariants.{Done, Wrote, Trapped, Missi
 use Rattle.model.specs.declared.Stop.{Stop}
 use Rattle.model.specs.declared.Stop.TheVariants.{Limit, Trap}
 use Rattle.laws.specs.Good.{Good}
-use Rattle.laws.specs.Mapped.{leaves, SameSize}
+use Rattle.laws.specs.Mapped.{SameSize}
 use Rattle.laws.proofs.Attempt.{missing}
 use Rattle.laws.proofs.Third.{Enough, enough, miss_good}
 use Rattle.laws.specs.Demand2.{Right}

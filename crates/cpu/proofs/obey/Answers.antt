@@ -2,7 +2,6 @@
 use mathlib.Core.Bool.{true, false}
 use Rattle.model.specs.Attempt.{byte, half, word, obey}
 use Rattle.cpu.proofs.Ways.{inside, load_obeys, store_obeys}
-use borrow.Author.Rules.{rules}
 use Rattle.cpu.proofs.obey.Goals as goal
 
 pub write-requires : goal.write-requires

@@ -1,7 +1,6 @@
 -- `unfetched`: what the fetch comes to ends the attempt.
 use mathlib.Core.Path.{sym, ◌∙◌}
 use Rattle.cpu.proofs.Ways.{placed, attempt_ended}
-use borrow.Author.Rules.{rules}
 use Rattle.cpu.proofs.unfetched.Goals as goal
 
 pub returns : goal.returns

@@ -1,14 +1,10 @@
 -- `go` meets its contract: between two legs the run under way is `Running`, and each outcome of the next leg is one law. The measure:
 -- the instructions and the loads that are left.
 use mathlib.Core.Path.{refl}
-use Prim.Native.Nat.{◌+◌, ◌-◌, ◌*◌, ◌≤◌}
 use native.Mathlib.Omega.{arith}
-use Rattle.model.specs.Run.{uncounted}
 use Rattle.laws.proofs.Seated.{safe}
-use Rattle.engine.specs.Engine.{of, counted}
-use Rattle.engine.proofs.Running.{byte_most, Running, begun, run_out, leg_few, leg_on, leg_trapped, leg_stopped, leg_never, leg_frame, leg_ready, leg_again}
-use Rattle.cpu.proofs.Finishing.{finished}
-use borrow.Author.Rules.{rules}
+use Rattle.engine.proofs.Running.{byte_most, begun, run_out, leg_few, leg_on, leg_trapped, leg_stopped, leg_never, leg_frame, leg_ready, leg_again}
+use Rattle.cpu.proofs.Finishing.{finished_not}
 use Rattle.engine.proofs.go.Goals as goal
 
 pub loop-left-init : goal.loop-left-init
@@ -22,27 +18,17 @@ marks_behind-requires c =
     let good = c.loop-left.invariant.1.good in
     (omega (arith, good.fit.frames_in, good.fit.frames_least, good.fit.pages_most), (c.leg_from-l.ensures 0).framed)
 
-pub shape_of-main-then-loads-limit : goal.shape_of-main-then-loads-limit
-shape_of-main-then-loads-limit c =
-    let inv = c.loop-left.invariant in
-    (leg_on _ _ _ _ _ _ _ _ _ _ _ inv.0 inv.1 _ _ _ c.leg_from-l.ensures _ c.marks_behind.ensures).size.main_long
-
-pub shape_of-swap-then-loads-limit : goal.shape_of-swap-then-loads-limit
-shape_of-swap-then-loads-limit c =
-    let inv = c.loop-left.invariant in
-    (leg_on _ _ _ _ _ _ _ _ _ _ _ inv.0 inv.1 _ _ _ c.leg_from-l.ensures _ c.marks_behind.ensures).size.swap_long
-
 pub returns-then-loads-limit : goal.returns-then-loads-limit
 returns-then-loads-limit c =
-    let inv = leg.before.before.before.before.loop.invariant in
-    absurd (leg_never _ _ _ _ _ _ _ _ _ _ _ inv.0 inv.1 _ _ _ leg.leg-from.ensures _ c.marks-behind.ensures
-    _ c.o.given.1 (omega (arith, c.if1.true)))
+    let inv = c.loop-left.invariant in
+    absurd (leg_never _ _ _ _ _ _ _ _ _ _ _ inv.0 inv.1 _ _ _ c.leg_from-l.ensures _ c.marks_behind.ensures
+    _ c.in-Missing.is (omega (arith, c.if-loads-limit.true)))
 
 pub copies-requires : goal.copies-requires
 copies-requires c =
     let inv = c.loop-left.invariant in
     leg_frame _ _ _ _ _ _ _ _ _ _ _ inv.0 inv.1 _ _ _ c.leg_from-l.ensures _ c.marks_behind.ensures
-    _ c.o-1.given.1
+    _ c.in-Missing.is
 
 pub overflow_add-copied : goal.overflow_add-copied
 overflow_add-copied c =
@@ -59,7 +45,7 @@ pub load-book-requires : goal.load-book-requires
 load-book-requires c =
     let inv = c.loop-left.invariant in
     leg_ready _ _ _ _ _ _ _ _ _ _ _ inv.0 inv.1 _ _ _ c.leg_from-l.ensures _ c.marks_behind.ensures
-    _ c.o-1.given.1 _ c.page_of.ensures
+    _ c.in-Missing.is _ c.page_of.ensures
 
 pub overflow_add-loads : goal.overflow_add-loads
 overflow_add-loads c =
@@ -75,45 +61,25 @@ loop-left-preserved-in-Missing c =
     let inv = c.loop-left.invariant in (
       leg_few _ _ _ _ _ _ _ _ _ _ _ inv.0 inv.1 _ _ _ c.leg_from-l.ensures _ c.marks_behind.ensures,
       leg_again _ _ _ _ _ _ _ _ _ _ _ inv.0 inv.1 _ _ _ c.leg_from-l.ensures _ c.marks_behind.ensures
-          _ c.o-1.given.1 _ c.page_of.ensures _ _ _ c.load-book.ensures
+          _ c.in-Missing.is _ c.page_of.ensures _ _ _ c.load-book.ensures
           _ _ (omega arith) (omega arith) _ (omega arith) _ c.copies.ensures _ (omega arith),
     )
-
-pub shape_of-main-in-Trapped : goal.shape_of-main-in-Trapped
-shape_of-main-in-Trapped c =
-    let inv = c.loop-left.invariant in
-    (leg_on _ _ _ _ _ _ _ _ _ _ _ inv.0 inv.1 _ _ _ c.leg_from-l.ensures _ c.marks_behind.ensures).size.main_long
-
-pub shape_of-swap-in-Trapped : goal.shape_of-swap-in-Trapped
-shape_of-swap-in-Trapped c =
-    let inv = c.loop-left.invariant in
-    (leg_on _ _ _ _ _ _ _ _ _ _ _ inv.0 inv.1 _ _ _ c.leg_from-l.ensures _ c.marks_behind.ensures).size.swap_long
 
 pub returns-in-Trapped : goal.returns-in-Trapped
 returns-in-Trapped c =
     let inv = c.loop-left.invariant in
     leg_trapped _ _ _ _ _ _ _ _ _ _ _ inv.0 inv.1 _ _ _ c.leg_from-l.ensures _ c.marks_behind.ensures
-    _ _ c.o-in-Trapped-1.given.1 _ c.finish-in-Trapped.ensures
-
-pub shape_of-main-in-Stopped : goal.shape_of-main-in-Stopped
-shape_of-main-in-Stopped c =
-    let inv = c.loop-left.invariant in
-    (leg_on _ _ _ _ _ _ _ _ _ _ _ inv.0 inv.1 _ _ _ c.leg_from-l.ensures _ c.marks_behind.ensures).size.main_long
-
-pub shape_of-swap-in-Stopped : goal.shape_of-swap-in-Stopped
-shape_of-swap-in-Stopped c =
-    let inv = c.loop-left.invariant in
-    (leg_on _ _ _ _ _ _ _ _ _ _ _ inv.0 inv.1 _ _ _ c.leg_from-l.ensures _ c.marks_behind.ensures).size.swap_long
+    _ _ c.in-Trapped.is _ c.finish-in-Trapped.ensures
 
 pub returns-in-Stopped : goal.returns-in-Stopped
 returns-in-Stopped c =
     let inv = c.loop-left.invariant in
     leg_stopped _ _ _ _ _ _ _ _ _ _ _ inv.0 inv.1 _ _ _ c.leg_from-l.ensures _ c.marks_behind.ensures
-    _ c.o-in-Stopped-1.given.1 _ c.finish-in-Stopped.ensures
+    _ c.in-Stopped.is _ c.finish-in-Stopped.ensures
 
 pub loop-left-smaller : goal.loop-left-smaller
 loop-left-smaller c =
-    omega (arith, (c.leg_from-l.ensures 0).between (finished c.leg_from-l.result.outcome c.in_default.keys4))
+    omega (arith, (c.leg_from-l.ensures 0).between (finished_not c.leg_from-l.result.outcome c.in_default.not-Trapped c.in_default.not-Missing c.in_default.not-Stopped))
 
 pub loop-left-preserved : goal.loop-left-preserved
 loop-left-preserved c =

@@ -1,13 +1,9 @@
 -- `go` meets its contract: between two legs the run under way is `Running`, and each outcome of the next leg is one law. The measure:
 -- the instructions and the loads that are left.
-use mathlib.Core.Path.{refl}
 use Prim.Native.Nat.{◌+◌, ◌-◌, ◌*◌, ◌≤◌}
-use native.Mathlib.Omega.{arith}
 use Rattle.model.specs.Run.{uncounted}
-use Rattle.laws.proofs.Seated.{safe}
 use Rattle.engine.specs.Engine.{of, counted}
-use Rattle.engine.proofs.Running.{byte_most, Running, begun, run_out, leg_few, leg_on, leg_trapped, leg_stopped, leg_never, leg_frame, leg_ready, leg_again}
-use Rattle.cpu.proofs.Finishing.{finished}
+use Rattle.engine.proofs.Running.{Running}
 use Rattle.engine.proofs.go.Given as goal
 
 abbrev pub invariant-loop-left : goal.invariant-loop-left

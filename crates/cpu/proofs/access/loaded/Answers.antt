@@ -1,6 +1,5 @@
 -- `access::loaded` goes by what the access came to.
 use Rattle.cpu.specs.Reach.{loaded}
-use borrow.Author.Rules.{rules}
 use Rattle.cpu.proofs.access.loaded.Goals as goal
 
 pub returns-in-Misaligned : goal.returns-in-Misaligned

@@ -1,5 +1,4 @@
 -- `access::pcs_onward` goes to the next instruction.
-use borrow.Author.Rules.{rules}
 use Rattle.cpu.proofs.access.pcs_onward.Goals as goal
 
 pub returns : goal.returns

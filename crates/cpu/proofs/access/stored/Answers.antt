@@ -1,6 +1,5 @@
 -- `access::stored` goes by what the access came to.
 use Rattle.cpu.specs.Reach.{stored}
-use borrow.Author.Rules.{rules}
 use Rattle.cpu.proofs.access.stored.Goals as goal
 
 pub returns-in-Misaligned : goal.returns-in-Misaligned

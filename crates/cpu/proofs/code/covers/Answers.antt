@@ -1,5 +1,4 @@
 -- `code::covers` compares page numbers.
-use borrow.Author.Rules.{rules}
 use Rattle.cpu.proofs.code.covers.Goals as goal
 
 pub returns : goal.returns

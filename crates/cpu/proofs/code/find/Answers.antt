@@ -1,6 +1,6 @@
 -- `code::find`: the page is read, or no page is found.
 use mathlib.Core.Path.{refl}
-use Rattle.cpu.proofs.CodePages.{no_place, nowhere, in_table, stands}
+use Rattle.cpu.proofs.CodePages.{nowhere, in_table, stands}
 use borrow.Author.Rules.{rules}
 use Rattle.cpu.proofs.code.find.Goals as goal
 
@@ -14,5 +14,5 @@ returns-in-At c =
     c.entry.ensures _ c.ppx.ensures
 
 pub returns-in_default : goal.returns-in_default
-returns-in_default c = let h = c.in_default.not-At in
-    nowhere _ _ _ _ c.locate-a.ensures ? (record { 0 = 1048576 }) refl (record { 0 = 0 })
+returns-in_default c =
+    nowhere _ _ _ _ c.locate-a.ensures c.in_default.not-At (record { 0 = 1048576 }) refl (record { 0 = 0 })

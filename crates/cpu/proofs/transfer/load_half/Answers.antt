@@ -1,10 +1,8 @@
 -- `transfer::load_half`: at a place, or not.
-use mathlib.Core.Path.{refl}
 use native.Mathlib.Omega.{arith}
 use Rattle.model.specs.Attempt.{half}
 use Rattle.laws.proofs.Bytes.{number_below}
 use Rattle.cpu.proofs.Ways.{load_at, load_ended}
-use borrow.Author.Rules.{rules}
 use Rattle.cpu.proofs.transfer.load_half.Goals as goal
 use Rattle.cpu.proofs.transfer.load_half.Goals.{then-signed, else-signed}
 
@@ -19,8 +17,8 @@ sext16-requires c =
 pub returns-after-signed : goal.returns-after-signed
 returns-after-signed c =
     load_at half _ _ _ _ _ _ _ _ c.in-At.is _ c.half_at-x.ensures _
-    (elim c.if-signed.branch [ then-signed w ↦ ? | else-signed w ↦ ? ])
+    (elim c.if-signed.branch [ then-signed w ↦ simp (w.write-is, w.sext16.ensures, w.if-signed.true) | else-signed w ↦ simp (w.write-is, w.if-signed.false) ])
     _ c.write.ensures _ c.loaded.ensures
 
 pub returns-in_default : goal.returns-in_default
-returns-in_default c = load_ended half _ _ _ _ _ _ _ ? _ c.loaded-in_default.ensures
+returns-in_default c = load_ended half _ _ _ _ _ _ _ c.in_default.not-At _ c.loaded-in_default.ensures

@@ -3,7 +3,6 @@ use mathlib.Core.Path.{refl}
 use mathlib.Core.Bool.{false}
 use Rattle.model.specs.Attempt.{word}
 use Rattle.cpu.proofs.Ways.{load_at, load_ended}
-use borrow.Author.Rules.{rules}
 use Rattle.cpu.proofs.transfer.load_word.Goals as goal
 
 pub word_at-requires : goal.word_at-requires
@@ -15,4 +14,4 @@ returns-in-At c =
     _ c.write.ensures _ c.loaded.ensures
 
 pub returns-in_default : goal.returns-in_default
-returns-in_default c = load_ended word _ _ _ _ _ false _ ? _ c.loaded-in_default.ensures
+returns-in_default c = load_ended word _ _ _ _ _ false _ c.in_default.not-At _ c.loaded-in_default.ensures

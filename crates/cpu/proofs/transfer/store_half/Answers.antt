@@ -1,8 +1,6 @@
 -- `transfer::store_half`: at a place, or not.
-use mathlib.Core.Path.{refl}
 use Rattle.model.specs.Attempt.{half}
 use Rattle.cpu.proofs.Ways.{store_at, store_ended}
-use borrow.Author.Rules.{rules}
 use Rattle.cpu.proofs.transfer.store_half.Goals as goal
 
 pub put_half-requires : goal.put_half-requires
@@ -13,4 +11,4 @@ returns-in-At c = λ gpr.
     store_at half _ _ gpr _ _ _ _ c.in-At.is _ c.put_half.ensures _ c.stored.ensures
 
 pub returns-in_default : goal.returns-in_default
-returns-in_default c = λ gpr. let h = c.in_default.not-At in store_ended half _ _ gpr _ _ _ ? _ c.stored-in_default.ensures
+returns-in_default c = λ gpr. store_ended half _ _ gpr _ _ _ c.in_default.not-At _ c.stored-in_default.ensures

@@ -1,8 +1,6 @@
 -- `transfer::store_word`: at a place, or not.
-use mathlib.Core.Path.{refl}
 use Rattle.model.specs.Attempt.{word}
 use Rattle.cpu.proofs.Ways.{store_at, store_ended}
-use borrow.Author.Rules.{rules}
 use Rattle.cpu.proofs.transfer.store_word.Goals as goal
 
 pub put_word-requires : goal.put_word-requires
@@ -13,4 +11,4 @@ returns-in-At c = λ gpr.
     store_at word _ _ gpr _ _ _ _ c.in-At.is _ c.put_word.ensures _ c.stored.ensures
 
 pub returns-in_default : goal.returns-in_default
-returns-in_default c = λ gpr. let h = c.in_default.not-At in store_ended word _ _ gpr _ _ _ ? _ c.stored-in_default.ensures
+returns-in_default c = λ gpr. store_ended word _ _ gpr _ _ _ c.in_default.not-At _ c.stored-in_default.ensures

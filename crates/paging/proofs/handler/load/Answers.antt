@@ -6,7 +6,7 @@ use Rattle.paging.proofs.handler.load.Goals as goal
 
 pub bring_in-requires : goal.bring_in-requires
 bring_in-requires c =
-    (search rules, search rules, omega (arith, c.frame.ensures, start.requires.taken), search rules)
+    (search rules, search rules, omega (arith, c.frame.ensures, c.requires.taken), search rules)
 
 pub returns : goal.returns
 returns c =

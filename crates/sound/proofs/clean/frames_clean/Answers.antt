@@ -1,6 +1,6 @@
 -- `clean::frames_clean`: the pages of the first f frames have their marks, or equal their swap pages.
-use mathlib.Core.Path.{◌≡◌}
-use mathlib.Core.Bool.{true}
+use mathlib.Core.Path.{ap}
+use mathlib.Core.Bool.{not}
 use Prim.Native.Nat.{◌≤◌, ◌-◌}
 use Rattle.model.specs.Choice.{every_below}
 use Rattle.model.specs.State.{memory}
@@ -21,14 +21,14 @@ clean-requires c =
 
 pub returns-then-not-clean : goal.returns-then-not-clean
 returns-then-not-clean c =
-    let a = turn.before.before.before.before.args in
+    let a = c.args in
     λ hand. fails _ _ c.loop-f.f (search rules)
-    (failed _ _ (in_book a.s a.main.now a.swap.now a.marks a.used a.held.now c.loop-f.f _ c.clean.ensures) c.if1.true)
+    (failed _ _ (in_book a.s a.main.now a.swap.now a.marks a.used a.held.now c.loop-f.f _ c.clean.ensures) (ap not c.if-not-clean.true))
 
 pub loop-f-preserved : goal.loop-f-preserved
 loop-f-preserved c =
     let a = c.args in
-    (search rules, one_more _ _ c.loop-f.invariant.1 (passed _ _ (in_book a.s a.main.now a.swap.now a.marks a.used a.held.now c.loop-f.f _ c.clean.ensures) c.if-not-clean.false))
+    (search rules, one_more _ _ c.loop-f.invariant.1 (passed _ _ (in_book a.s a.main.now a.swap.now a.marks a.used a.held.now c.loop-f.f _ c.clean.ensures) (ap not c.if-not-clean.false)))
 
 pub returns : goal.returns
 returns c =

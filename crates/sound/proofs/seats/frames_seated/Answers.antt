@@ -18,8 +18,8 @@ loop-f-init c = (search rules, none_yet _, none_yet _)
 
 pub returns-then-x-s : goal.returns-then-x-s
 returns-then-x-s c =
-    let a = turn.before.before.before.args in
-    λ hand marks. page_beyond a.s a.used a.held.now a.main.now c.loop.f (search rules) (search rules)
+    let a = c.args in
+    λ hand marks. page_beyond a.s a.used a.held.now a.main.now c.loop-f.f (search rules) (search rules)
 
 pub entry-e-requires : goal.entry-e-requires
 entry-e-requires c = (search rules, omega (arith, ap (λ p. p.0) c.virtual_page.ensures))

@@ -11,7 +11,7 @@ entry-e-requires c = (c.requires.0, omega (arith, ap (λ (v : VirtualPage). v.0)
 
 pub returns-then-e-eq1 : goal.returns-then-e-eq1
 returns-then-e-eq1 c =
-    home_main _ _ _ _ c.page_of-x.ensures _ c.entry-e.ensures _ (search rules) _ c.ppx.ensures c.main-at.ensures
+    home_main _ _ _ _ c.page_of-x.ensures _ c.entry-e.ensures _ (search rules) _ c.ppx.ensures c.main_at.ensures
 
 pub swap_of-requires : goal.swap_of-requires
 swap_of-requires c =

@@ -1,37 +1,43 @@
 -- `transfer::read_part`: the page is in main memory, or in swap.
+use mathlib.Core.Path.{refl}
+use Prim.Native.Nat.{◌+◌, ◌≤◌}
 use native.Mathlib.Omega.{arith}
 use lib.ListN.{length}
 use Rattle.host.proofs.Parts.{main_within, main_read, swap_within, swap_read}
 use borrow.Author.Rules.{rules}
 use Rattle.host.proofs.transfer.read_part.Goals as goal
 
-part-copy-end-2 : tie.Need-slice-bounds-copy-end-2
-part-copy-end-2 c =
-    let home = c.before.before.before in
-    let begin = home.before.before.before.before in
-    let a = begin.args in
-    swap_within a.s a.main.now a.swap.now begin.requires.0 a.va (length a.into.now) begin.requires.1 begin.requires.2 _ home.Home-of.ensures _
-    c.before.start2.given.1
-
-add-end-2 : tie.Need-overflow-add-end-2
-add-end-2 c = omega (arith, part-copy-end-2 c)
-
 pub home_of-requires : goal.home_of-requires
 home_of-requires c = let pre = c.requires in (pre.0.safe.fit, pre.1)
+
+pub overflow_add-end : goal.overflow_add-end
+overflow_add-end c =
+    let a = c.args in
+    let k : c.in-Main.start + length a.into.now ≤ length a.main.now =
+      main_within a.s a.main.now a.swap.now c.requires.0 a.va (length a.into.now) c.requires.1 c.requires.2 _ c.in-Main.ensures _ refl in
+    omega arith
 
 pub slice_bounds-copy-end : goal.slice_bounds-copy-end
 slice_bounds-copy-end c =
     let a = c.args in
-    main_within a.s a.main.now a.swap.now c.requires.0 a.va (length a.into.now) c.requires.1 c.requires.2 _ c.home_of.ensures _
-    c.start-1.given.1
+    main_within a.s a.main.now a.swap.now c.requires.0 a.va (length a.into.now) c.requires.1 c.requires.2 _ c.in-Main.ensures _ refl
 
-pub overflow_add-end : goal.overflow_add-end
-overflow_add-end c = omega (arith, part-copy-end c)
+pub overflow_add-end-in-Swap : goal.overflow_add-end-in-Swap
+overflow_add-end-in-Swap c =
+    let a = c.args in
+    let k : c.in-Swap.start + length a.into.now ≤ length a.swap.now =
+      swap_within a.s a.main.now a.swap.now c.requires.0 a.va (length a.into.now) c.requires.1 c.requires.2 _ c.in-Swap.ensures _ refl in
+    omega arith
+
+pub slice_bounds-copy-end-in-Swap : goal.slice_bounds-copy-end-in-Swap
+slice_bounds-copy-end-in-Swap c =
+    let a = c.args in
+    swap_within a.s a.main.now a.swap.now c.requires.0 a.va (length a.into.now) c.requires.1 c.requires.2 _ c.in-Swap.ensures _ refl
 
 pub returns-in-Main : goal.returns-in-Main
 returns-in-Main c =
-    main_read _ _ _ c.requires.0 _ _ c.requires.1 c.requires.2 _ c.home_of.ensures _ c.start-1.given.1 _ c.copy.ensures
+    main_read _ _ _ c.requires.0 _ _ c.requires.1 c.requires.2 _ c.in-Main.ensures _ refl _ c.copy.ensures
 
 pub returns-in-Swap : goal.returns-in-Swap
 returns-in-Swap c =
-    swap_read _ _ _ c.requires.0 _ _ c.requires.1 c.requires.2 _ c.home_of.ensures _ c.start-in-Swap-1.given.1 _ c.copy-in-Swap.ensures
+    swap_read _ _ _ c.requires.0 _ _ c.requires.1 c.requires.2 _ c.in-Swap.ensures _ refl _ c.copy-in-Swap.ensures

@@ -6,7 +6,6 @@ use Rattle.laws.proofs.Choice.{and_left}
 use Rattle.sound.specs.Lean.{whole}
 use Rattle.sound.proofs.Loops.{failed, passed}
 use Rattle.sound.proofs.Rows.{unsound, gpr_not, used_not, seats_not, count_not, sound_so_far}
-use borrow.Author.Rules.{rules}
 use Rattle.sound.proofs.sound.Goals as goal
 
 pub returns-then-l-ne0 : goal.returns-then-l-ne0
@@ -55,14 +54,13 @@ returns-then-not-marks_right c =
     unsound (whole a.l a.held.now) _ 8 (failed _ _ (c.marks_right.ensures a.l.hand a.held.now) (ap not c.if-not-marks_right.true))
 
 pub frames_clean-requires : goal.frames_clean-requires
-frames_clean-requires c =
-    (
-      c.requires.0,
-      c.requires.1,
-      omega (arith, c.if-l-s.false),
-      c.requires.2,
-      λ hand marks. and_left _ _ (passed _ _ (c.frames_seated.ensures hand marks) (ap not c.if-not-frames_seated.false)),
-    )
+frames_clean-requires c = (
+  c.requires.0,
+  c.requires.1,
+  omega (arith, c.if-l-s.false),
+  c.requires.2,
+  λ hand marks. and_left _ _ (passed _ _ (c.frames_seated.ensures hand marks) (ap not c.if-not-frames_seated.false)),
+)
 
 pub returns : goal.returns
 returns c =

@@ -2,7 +2,6 @@
 use Prim.Native.Nat.{◌-◌}
 use native.Mathlib.Omega.{arith}
 use Rattle.host.proofs.Where.{mark_none, mark_ends}
-use borrow.Author.Rules.{rules}
 use Rattle.host.proofs.marks.marks_for.Goals as goal
 
 pub returns-then-n-eq0 : goal.returns-then-n-eq0

@@ -1,9 +1,6 @@
 -- `transfer::read_bytes`: the first i bytes have come.
-use Prim.Native.Nat.{◌-◌}
 use native.Mathlib.Omega.{arith}
-use lib.ListN.{length}
-use Rattle.model.specs.State.{memory}
-use Rattle.host.proofs.Transfers.{Reading, reading_start, reading_next, reading_done}
+use Rattle.host.proofs.Transfers.{reading_start, reading_next, reading_done}
 use borrow.Author.Rules.{rules}
 use Rattle.host.proofs.transfer.read_bytes.Goals as goal
 

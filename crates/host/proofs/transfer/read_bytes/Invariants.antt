@@ -1,9 +1,8 @@
 -- `transfer::read_bytes`: the first i bytes have come.
 use Prim.Native.Nat.{◌-◌}
-use native.Mathlib.Omega.{arith}
 use lib.ListN.{length}
 use Rattle.model.specs.State.{memory}
-use Rattle.host.proofs.Transfers.{Reading, reading_start, reading_next, reading_done}
+use Rattle.host.proofs.Transfers.{Reading}
 use Rattle.host.proofs.transfer.read_bytes.Given as goal
 
 abbrev pub invariant-loop-i : goal.invariant-loop-i

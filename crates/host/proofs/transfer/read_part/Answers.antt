@@ -4,7 +4,6 @@ use Prim.Native.Nat.{◌+◌, ◌≤◌}
 use native.Mathlib.Omega.{arith}
 use lib.ListN.{length}
 use Rattle.host.proofs.Parts.{main_within, main_read, swap_within, swap_read}
-use borrow.Author.Rules.{rules}
 use Rattle.host.proofs.transfer.read_part.Goals as goal
 
 pub home_of-requires : goal.home_of-requires
@@ -14,7 +13,7 @@ pub overflow_add-end : goal.overflow_add-end
 overflow_add-end c =
     let a = c.args in
     let k : c.in-Main.start + length a.into.now ≤ length a.main.now =
-      main_within a.s a.main.now a.swap.now c.requires.0 a.va (length a.into.now) c.requires.1 c.requires.2 _ c.in-Main.ensures _ refl in
+    main_within a.s a.main.now a.swap.now c.requires.0 a.va (length a.into.now) c.requires.1 c.requires.2 _ c.in-Main.ensures _ refl in
     omega arith
 
 pub slice_bounds-copy-end : goal.slice_bounds-copy-end
@@ -26,7 +25,7 @@ pub overflow_add-end-in-Swap : goal.overflow_add-end-in-Swap
 overflow_add-end-in-Swap c =
     let a = c.args in
     let k : c.in-Swap.start + length a.into.now ≤ length a.swap.now =
-      swap_within a.s a.main.now a.swap.now c.requires.0 a.va (length a.into.now) c.requires.1 c.requires.2 _ c.in-Swap.ensures _ refl in
+    swap_within a.s a.main.now a.swap.now c.requires.0 a.va (length a.into.now) c.requires.1 c.requires.2 _ c.in-Swap.ensures _ refl in
     omega arith
 
 pub slice_bounds-copy-end-in-Swap : goal.slice_bounds-copy-end-in-Swap

@@ -1,8 +1,7 @@
 -- `transfer::write_bytes`: what is left of the bytes, written to the memories as they are, comes to all of them.
 use Prim.Native.Nat.{◌-◌}
-use native.Mathlib.Omega.{arith}
 use lib.ListN.{length}
-use Rattle.host.proofs.Transfers.{Writing, writing_start, writing_next, writing_done}
+use Rattle.host.proofs.Transfers.{Writing}
 use Rattle.host.proofs.transfer.write_bytes.Given as goal
 
 abbrev pub invariant-loop-i : goal.invariant-loop-i

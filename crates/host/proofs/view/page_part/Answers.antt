@@ -15,7 +15,7 @@ overflow_add-end c =
     let a = c.args in
     let first = c.first_va.ensures in
     let k : c.in-Main.start + 4096 ≤ length a.main.now =
-      main_within a.s a.main.now a.swap.now c.requires.0 _ 4096 (omega (arith, first, c.requires.1)) (omega (arith, first)) _
+    main_within a.s a.main.now a.swap.now c.requires.0 _ 4096 (omega (arith, first, c.requires.1)) (omega (arith, first)) _
     c.in-Main.ensures _ refl in
     omega arith
 
@@ -31,7 +31,7 @@ overflow_add-end-in-Swap c =
     let a = c.args in
     let first = c.first_va.ensures in
     let k : c.in-Swap.start + 4096 ≤ length a.swap.now =
-      swap_within a.s a.main.now a.swap.now c.requires.0 _ 4096 (omega (arith, first, c.requires.1)) (omega (arith, first)) _
+    swap_within a.s a.main.now a.swap.now c.requires.0 _ 4096 (omega (arith, first, c.requires.1)) (omega (arith, first)) _
     c.in-Swap.ensures _ refl in
     omega arith
 

@@ -9,14 +9,14 @@ pub copy_in-requires : goal.copy_in-requires
 copy_in-requires c = (
   omega (arith, ap (λ p. p.0) c.swap_of-from.ensures),
   omega (arith, ap (λ p. p.0) c.frame_at-to.ensures),
-  )
+)
 
 pub bring_entry-requires : goal.bring_entry-requires
 bring_entry-requires c = (
   search rules,
   search rules,
   omega (arith, ap (λ p. p.0) c.frame_at-to.ensures),
-  )
+)
 
 pub returns : goal.returns
 returns c =

@@ -1,7 +1,6 @@
 -- `pages::ppx`: 20 bits are left of a word.
 use mathlib.Core.Path.{ap}
 use native.Mathlib.Omega.{arith}
-use borrow.Author.Rules.{rules}
 use Rattle.paging.proofs.pages.ppx.Goals as goal
 
 pub returns : goal.returns

@@ -1,7 +1,6 @@
 -- `table::bring_entry`: the entry with ppx and v.
 use native.Mathlib.Omega.{arith}
 use Rattle.paging.proofs.Ways.{entry_written}
-use borrow.Author.Rules.{rules}
 use Rattle.paging.proofs.table.bring_entry.Goals as goal
 
 pub returns : goal.returns

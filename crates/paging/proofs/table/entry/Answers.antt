@@ -1,6 +1,5 @@
 -- `table::entry`: the word at the entry's place.
 use Rattle.model.specs.Table.{entry}
-use borrow.Author.Rules.{rules}
 use Rattle.paging.proofs.table.entry.Goals as goal
 
 pub returns : goal.returns

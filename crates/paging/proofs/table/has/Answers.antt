@@ -1,6 +1,5 @@
 -- `table::has`: bit 1, or bit 2.
 use Rattle.paging.proofs.Ways.{has_write, has_read}
-use borrow.Author.Rules.{rules}
 use Rattle.paging.proofs.table.has.Goals as goal
 
 pub returns-then-writing : goal.returns-then-writing

@@ -1,7 +1,6 @@
 -- `table::put_out_entry`: the entry without ppx and v.
 use native.Mathlib.Omega.{arith}
 use Rattle.paging.proofs.Ways.{entry_written}
-use borrow.Author.Rules.{rules}
 use Rattle.paging.proofs.table.put_out_entry.Goals as goal
 
 pub returns : goal.returns

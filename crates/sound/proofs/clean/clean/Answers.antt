@@ -2,7 +2,6 @@
 use mathlib.Core.Path.{ap}
 use native.Mathlib.Omega.{arith}
 use Rattle.sound.proofs.Pages.{by_mark, by_pages}
-use borrow.Author.Rules.{rules}
 use Rattle.sound.proofs.clean.clean.Goals as goal
 
 pub returns-then-marked : goal.returns-then-marked

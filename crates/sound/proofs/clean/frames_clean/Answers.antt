@@ -1,11 +1,6 @@
 -- `clean::frames_clean`: the pages of the first f frames have their marks, or equal their swap pages.
 use mathlib.Core.Path.{ap}
 use mathlib.Core.Bool.{not}
-use Prim.Native.Nat.{◌≤◌, ◌-◌}
-use Rattle.model.specs.Choice.{every_below}
-use Rattle.model.specs.State.{memory}
-use Rattle.model.specs.Sound.{clean}
-use Rattle.book.specs.Numbers.{book_of}
 use Rattle.sound.proofs.Loops.{none_yet, one_more, fails, all_passed, failed, passed}
 use Rattle.sound.proofs.Pages.{held_below, in_book}
 use borrow.Author.Rules.{rules}

@@ -6,8 +6,6 @@ use Rattle.model.specs.Choice.{every_below}
 use Rattle.model.specs.State.{memory}
 use Rattle.model.specs.Sound.{clean}
 use Rattle.book.specs.Numbers.{book_of}
-use Rattle.sound.proofs.Loops.{none_yet, one_more, fails, all_passed, failed, passed}
-use Rattle.sound.proofs.Pages.{held_below, in_book}
 use Rattle.sound.proofs.clean.frames_clean.Given as goal
 
 abbrev pub invariant-loop-f : goal.invariant-loop-f

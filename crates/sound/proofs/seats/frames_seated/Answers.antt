@@ -1,13 +1,6 @@
 -- `seats::frames_seated`: the first f pages are in the table, and seated.
-use mathlib.Core.Path.{◌≡◌, ap}
-use mathlib.Core.Bool.{true}
-use Prim.Native.Nat.{◌≤◌, ◌-◌}
+use mathlib.Core.Path.{ap}
 use native.Mathlib.Omega.{arith}
-use lib.Dec.{ltb}
-use Rattle.model.specs.Choice.{every_below}
-use Rattle.model.specs.Frames.{page_in}
-use Rattle.model.specs.Sound.{seated}
-use Rattle.book.specs.Numbers.{book_of}
 use Rattle.sound.proofs.Loops.{none_yet, one_more, all_passed}
 use Rattle.sound.proofs.Frame.{both_pass, page_within, page_beyond, seat_invalid, seat_other, seat_there}
 use borrow.Author.Rules.{rules}

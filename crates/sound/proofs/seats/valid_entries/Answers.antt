@@ -1,8 +1,6 @@
 -- `seats::valid_entries`: n of the first x entries are valid.
-use mathlib.Core.Path.{◌≡◌, sym, ap}
-use Prim.Native.Nat.{◌≤◌, ◌-◌}
+use mathlib.Core.Path.{sym, ap}
 use native.Mathlib.Omega.{arith}
-use Rattle.sound.specs.Count.{valid_below}
 use Rattle.sound.proofs.Count.{count_none, valid_next, valid_all}
 use borrow.Author.Rules.{rules}
 use Rattle.sound.proofs.seats.valid_entries.Goals as goal

@@ -1,9 +1,7 @@
 -- `seats::valid_entries`: n of the first x entries are valid.
-use mathlib.Core.Path.{◌≡◌, sym, ap}
+use mathlib.Core.Path.{◌≡◌}
 use Prim.Native.Nat.{◌≤◌, ◌-◌}
-use native.Mathlib.Omega.{arith}
 use Rattle.sound.specs.Count.{valid_below}
-use Rattle.sound.proofs.Count.{count_none, valid_next, valid_all}
 use Rattle.sound.proofs.seats.valid_entries.Given as goal
 
 abbrev pub invariant-loop-x : goal.invariant-loop-x

@@ -4,7 +4,7 @@
 function settle(text) {
     what = "unfit"
     if (text ~ /the (goal|part) fails, at /) what = "fact"
-    else if (text ~ /computed as far as they go, the two (types|sides) (first differ|differ only|are `)/ && text !~ /(has|other has) `(Prim\.Native\.Nat\.ℕ|[^`]*\.Denot)`/) what = "fact"
+    else if (text ~ /(computed as far as they go|as printed), the two (types|sides) (first differ|differ only|are `)/ && text !~ /(has|other has) `(Prim\.Native\.Nat\.ℕ|[^`]*\.Denot)`/) what = "fact"
     else if (text ~ /`search`: no proof of / && text ~ /Every way was tried/) what = "fact"
     else if (text ~ /so what it leaves must be a path whose two ends are equal/) what = "fact"
     else if (text ~ /^[^ ]*: error: `[^`]*`: expected type `[^`]*`, but this has type `[^`]*`/ && text !~ /tie\.|`[^`]*\?[0-9]/) what = "fact"

@@ -1,8 +1,7 @@
 -- `hex_line`: the word, the digits, the end.
 use Rattle.text.proofs.Appending.{joined}
-use borrow.Author.Rules.{rules}
 use Rattle.answerlines.proofs.hex_line.Goals as goal
 
 pub returns : goal.returns
 returns c =
-    joined c.put.ensures (joined c.put_hex-end.ensures.0 c.put.ensures)
+    joined c.put-to.ensures (joined c.put_hex-end.ensures.0 c.put.ensures)

@@ -1,14 +1,10 @@
 -- `put_numbers`: the first i are put.
 use mathlib.Core.Path.{ap}
-use Prim.Native.Nat.{◌+◌, ◌-◌, ◌*◌, ◌≤◌}
 use native.Mathlib.Omega.{arith}
-use lib.ListN.{length, take}
 use lib.Seq.{take_all}
-use Rattle.text.specs.Text.{Appended}
 use Rattle.text.proofs.Appending.{nothing, joined, same, length_appended}
 use Rattle.answerlines.specs.Lines.{spaced_all}
 use Rattle.answerlines.proofs.Spaced.{spaced_next}
-use borrow.Author.Rules.{rules}
 use Rattle.answerlines.proofs.put_numbers.Goals as goal
 
 pub loop-i-init : goal.loop-i-init

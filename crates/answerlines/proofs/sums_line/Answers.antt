@@ -4,7 +4,6 @@ use mathlib.Core.List.{[], ◌∷◌}
 use Prim.Native.Nat.{ℕ}
 use Rattle.text.proofs.Appending.{same}
 use Rattle.answerlines.specs.Lines.{numbers_line}
-use borrow.Author.Rules.{rules}
 use Rattle.answerlines.proofs.sums_line.Goals as goal
 
 pub returns : goal.returns

@@ -2,13 +2,12 @@
 use mathlib.Core.Path.{refl}
 use Rattle.text.proofs.Appending.{same}
 use Rattle.answerlines.proofs.Refused.{verdict_refused, verdict_granted}
-use borrow.Author.Rules.{rules}
 use Rattle.answerlines.proofs.verdict_line.Goals as goal
 
 pub returns-in-Refused : goal.returns-in-Refused
 returns-in-Refused c =
-    same c.refused_line.ensures.0 (verdict_refused c.args.v _ refl _ c.v-1.given.1 c.refusal_number.ensures)
+    same c.refused_line.ensures.0 (verdict_refused c.args.v _ refl _ c.in-Refused.is c.refusal_number.ensures)
 
 pub returns-in-Granted : goal.returns-in-Granted
 returns-in-Granted c =
-    same c.hex_line.ensures (verdict_granted c.args.v _ refl _ c.enum_told-1.given.1)
+    same c.hex_line.ensures (verdict_granted c.args.v _ refl _ c.in-Granted.is)

@@ -1,31 +1,22 @@
 -- `fnv::fnv1a`: what is left, from the sum so far, comes to the same; the exclusive or of two numbers of 32 bits has 32 bits.
-use mathlib.Core.Path.{◌≡◌, refl, ◌∙◌}
-use Prim.Native.Nat.{◌-◌, ◌≤◌, ◌<◌}
+use mathlib.Core.Path.{refl, ◌∙◌}
 use native.Mathlib.Omega.{arith}
 use lib.Bits.{xor_lt}
-use lib.ListN.{length, drop, get_or}
-use Rattle.answerlines.specs.Fnv.{mixed, fnv1a}
+use lib.ListN.{get_or}
+use Rattle.answerlines.specs.Fnv.{mixed}
 use Rattle.answerlines.proofs.Mixing.{mixed_more, mixed_all}
-use borrow.Author.Rules.{rules}
 use Rattle.answerlines.proofs.fnv.fnv1a.Goals as goal
-
-cast-joined-2 : tie.Need-overflow-cast-joined-2 invariant-loop decreases-loop
-cast-joined-2 c =
-    let at-loop = c.before.before in
-    let start = at-loop.before in
-    let byte = c.shared-slice-known.given at-loop.loop.i in
-    omega (arith, xor_lt 32 at-loop.loop.sum (get_or start.args.bytes.now at-loop.loop.i 0) (omega (arith, at-loop.loop.invariant.1)) (omega (arith, byte)))
 
 pub loop-i-init : goal.loop-i-init
 loop-i-init c = (omega arith, omega arith, refl)
 
 pub overflow_cast-joined : goal.overflow_cast-joined
 overflow_cast-joined c =
-    omega (arith, c.shared_slice_known-1.given c.loop-i.i)
+    omega (arith, c.type_inv.bytes c.loop-i.i)
 
 pub overflow_mul-sum : goal.overflow_mul-sum
 overflow_mul-sum c =
-    let byte = c.shared_slice_known-1.given c.loop-i.i in
+    let byte = c.type_inv.bytes c.loop-i.i in
     omega (arith, xor_lt 32 c.loop-i.sum (get_or c.args.bytes.now c.loop-i.i 0) (omega (arith, c.loop-i.invariant.1)) (omega (arith, byte)))
 
 pub loop-i-preserved : goal.loop-i-preserved

@@ -1,11 +1,8 @@
 -- `fnv::fnv1a`: what is left, from the sum so far, comes to the same; the exclusive or of two numbers of 32 bits has 32 bits.
-use mathlib.Core.Path.{◌≡◌, refl, ◌∙◌}
+use mathlib.Core.Path.{◌≡◌}
 use Prim.Native.Nat.{◌-◌, ◌≤◌, ◌<◌}
-use native.Mathlib.Omega.{arith}
-use lib.Bits.{xor_lt}
-use lib.ListN.{length, drop, get_or}
-use Rattle.answerlines.specs.Fnv.{mixed, fnv1a}
-use Rattle.answerlines.proofs.Mixing.{mixed_more, mixed_all}
+use lib.ListN.{length, drop}
+use Rattle.answerlines.specs.Fnv.{fnv1a}
 use Rattle.answerlines.proofs.fnv.fnv1a.Given as goal
 
 abbrev pub invariant-loop-i : goal.invariant-loop-i

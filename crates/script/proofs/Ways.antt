@@ -1,10 +1,9 @@
 -- One law for each way out of the readers of a line, over plain variables.
-use mathlib.Core.Bool.{Bool, true, false, ◌&&◌}
+use mathlib.Core.Bool.{Bool, true, false}
 use mathlib.Core.Path.{◌≡◌, refl, sym, ap, ◌∙◌}
 use mathlib.Core.List.{List, [], ◌∷◌}
 use Prim.Native.Nat.{ℕ, ◌+◌, ◌-◌, ◌/◌, ◌%◌, ◌≤◌, ◌<◌}
 use native.Mathlib.Omega.{arith}
-use lib.Dec.{eqb}
 use lib.ListN.{length, get_or, take}
 use lib.Seq.{take-length}
 use borrow.Author.Tests.{le-leb, lt-leb, eq-eqb, ne_eqb}
@@ -12,7 +11,7 @@ use Rattle.text.specs.Scan.{slice, index_of}
 use Rattle.model.specs.Bytes.{same}
 use Rattle.text.specs.Reading.{is_space, number_at, hex_end}
 use Rattle.text.specs.declared.reading.Part.{Part}
-use Rattle.text.specs.declared.reading.Part.TheVariants.{Number, NotNumber}
+use Rattle.text.specs.declared.reading.Part.TheVariants.{NotNumber}
 use Rattle.script.specs.Table.{Named, named, first_fit, word_of}
 use Rattle.script.specs.Parts.{fit, spaced_number, behind, ended, pairs, hex_behind, number_and_hex, fitting, hex_within, parts_of}
 use Rattle.script.specs.Grammar.{by_word, line_of}

@@ -1,13 +1,12 @@
 -- What is read lies within the line, and its numbers keep to the table.
 use mathlib.Core.Bool.{Bool, true, false, ◌&&◌}
-use mathlib.Core.Path.{◌≡◌, refl, sym, subst, ◌∙◌}
+use mathlib.Core.Path.{◌≡◌, sym, subst, ◌∙◌}
 use mathlib.Core.List.{List, [], ◌∷◌}
-use Prim.Native.Nat.{ℕ, suc, ◌+◌, ◌-◌, ◌/◌, ◌%◌, ◌≤◌, ◌<◌}
+use Prim.Native.Nat.{ℕ, suc, ◌+◌, ◌-◌, ◌/◌, ◌%◌, ◌≤◌}
 use native.Mathlib.Omega.{arith}
 use lib.Dec.{eqb, leb}
 use lib.ListN.{length, get_or, take}
 use borrow.Author.Tests.{leb-true}
-use Rattle.model.specs.Choice.{if◌then◌else◌}
 use Rattle.laws.proofs.Choice.{chosen}
 use Rattle.text.specs.Scan.{index_of, index_after}
 use Rattle.text.specs.Reading.{is_space, hex_end}

@@ -3,7 +3,6 @@ use Rattle.std.specs.Prelude.{List, ℕ, take}
 use Rattle.text.specs.Scan.{index_of}
 use Rattle.script.specs.Table.{call_row, change_row, word_of}
 use Rattle.script.specs.Parts.{parts_of, line_by}
-use Rattle.script.specs.declared.parts.Numbers.{Numbers}
 use Rattle.script.specs.declared.table.Row.TheVariants.{Alone}
 use Rattle.script.specs.declared.table.Word.{Word}
 use Rattle.script.specs.declared.table.Word.TheVariants.{Calls as CallsWord, Shows as ShowsWord, Changes as ChangesWord, Unknown}

@@ -4,11 +4,9 @@ use Prim.Native.Nat.{◌*◌}
 use native.Mathlib.Omega.{arith}
 use lib.Seq.{length-take-le}
 use Rattle.model.specs.State.{memory}
-use Rattle.model.specs.Answers.{image_numbers}
 use Rattle.model.specs.Console.{with_others}
 use Rattle.text.proofs.Appending.{same}
 use Rattle.program.proofs.Printed.{too_long, not_image, is_ptl, many_pages, few_pages, refused_text, refused_memory, granted_text, granted_memory}
-use borrow.Author.Rules.{rules}
 use Rattle.program.proofs.console.Goals as goal
 
 pub returns-then-input-gt17436 : goal.returns-then-input-gt17436
@@ -20,27 +18,27 @@ returns-then-input-gt17436 c =
 pub returns-then-ptl-gt4 : goal.returns-then-ptl-gt4
 returns-then-ptl-gt4 c =
     let input = c.args.input.now in
-    let v = many_pages input (omega arith) _ _ _ (ap image_numbers (sym c.ptl-1.given.1) ∙ c.read.ensures) (omega arith) in
+    let v = many_pages input (omega arith) _ _ _ c.in-Image.ensures (omega arith) in
     (same c.refuse-then-ptl-gt4.ensures (refused_text input _ v), refused_memory input _ v _)
 
 pub slice_bounds-load_and_run-end-in-Image : goal.slice_bounds-load_and_run-end-in-Image
 slice_bounds-load_and_run-end-in-Image c =
     let a = c.args in
-    sym (length-take-le (4096 * c.ptl-1.given.0.0) a.swap.now (omega arith))
+    sym (length-take-le (4096 * c.in-Image.ptl) a.swap.now (omega arith))
 
 pub returns-in-NotImage : goal.returns-in-NotImage
 returns-in-NotImage c =
     let input = c.args.input.now in
-    let v = not_image input (omega arith) c.refusal-1.given.0.0 (ap image_numbers (sym c.refusal-1.given.1) ∙ c.read.ensures) in
+    let v = not_image input (omega arith) c.in-NotImage.refusal c.in-NotImage.ensures in
     (same c.refuse-in-NotImage.ensures (refused_text input _ v), refused_memory input _ v _)
 
 pub returns-else-ptl-gt4 : goal.returns-else-ptl-gt4
 returns-else-ptl-gt4 c =
     let a = c.args in
     let input = a.input.now in
-    let ptl = c.ptl-1.given.0.0 in
+    let ptl = c.in-Image.ptl in
     let lent = memory a.main.now a.swap.now in
-    let numbers = ap image_numbers (sym c.ptl-1.given.1) ∙ c.read.ensures in
+    let numbers = c.in-Image.ensures in
     let v = few_pages input (omega arith) _ _ _ numbers (omega arith) in
     let is = is_ptl input (omega arith) _ _ _ numbers in (
       same c.load_and_run.ensures.0 (granted_text input v ptl is lent c.requires.0 (omega arith)),

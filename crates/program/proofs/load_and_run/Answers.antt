@@ -2,17 +2,16 @@
 use mathlib.Core.Path.{◌∙◌}
 use Rattle.text.proofs.Appending.{same}
 use Rattle.program.proofs.Printed.{load_refused, refused_left, load_granted, granted_left}
-use borrow.Author.Rules.{rules}
 use Rattle.program.proofs.load_and_run.Goals as goal
 
 pub returns-in-Refused : goal.returns-in-Refused
 returns-in-Refused c =
-    let e = c.verdict-1.given.1 in
+    let e = c.in-Refused.is in
     (same c.refuse.ensures (load_refused _ _ _ c.load-handed.ensures _ e), refused_left _ _ _ c.load-handed.ensures _ e)
 
 pub returns-in-Granted : goal.returns-in-Granted
 returns-in-Granted c =
-    let e = c.enum_told-1.given.1 in (
+    let e = c.in-Granted.is in (
       same c.run_and_print.ensures.0 (load_granted _ _ _ c.load-handed.ensures e),
       c.run_and_print.ensures.1 ∙ granted_left _ _ _ c.load-handed.ensures e,
     )

@@ -7,9 +7,9 @@ use Prim.Native.Nat.{ℕ, ◌*◌, ◌≤◌, ◌<◌}
 use native.Mathlib.Omega.{arith}
 use borrow.Author.Tests.{le-leb, lt-leb}
 use lib.Dec.{eqb, leb}
-use lib.ListN.{length, take, take-append-drop}
+use lib.ListN.{length, take-append-drop}
 use Rattle.model.specs.Choice.{if◌then◌else◌}
-use Rattle.model.specs.State.{Memory, State, memory, state}
+use Rattle.model.specs.State.{Memory, State, state}
 use Rattle.model.specs.Answers.{refusal_number, verdict_numbers, image_numbers}
 use Rattle.model.specs.Calls.{unless, StateOutcome}
 use Rattle.model.specs.Image.{ptl_of, start_of, frames_of, image_verdict, image_call, load_verdict, load_by, load_call, zero_machine}

@@ -18,7 +18,7 @@ use Rattle.script.specs.declared.Line.{Line}
 use Rattle.script.specs.declared.Line.TheVariants.{Calls, Shows, Changes, Bad}
 use Rattle.script.proofs.Asked.{rest_is}
 use Rattle.session.specs.Answers.{Says, answered, show_text}
-use Rattle.session.specs.Desk.{Desk, desk, standing, lent, handed_back, changed, said_to, changed_by, spoken_by, spoken, told_of, Tells}
+use Rattle.session.specs.Desk.{Desk, desk, lent, handed_back, changed, said_to, changed_by, spoken_by, spoken, told_of, Tells}
 use Rattle.session.specs.Ready.{Lent}
 use Rattle.session.specs.declared.Standing.{Standing}
 use Rattle.session.specs.declared.Told.{Told}

@@ -4,7 +4,6 @@ use Rattle.model.specs.Console.{refused_line}
 use Rattle.model.specs.declared.Handed.{Handed}
 use Rattle.text.proofs.Appending.{same}
 use Rattle.session.specs.Desk.{desk, standing}
-use borrow.Author.Rules.{rules}
 use Rattle.session.proofs.turned_away.Goals as goal
 
 pub returns : goal.returns

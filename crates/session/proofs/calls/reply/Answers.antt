@@ -4,7 +4,6 @@ use Rattle.model.specs.Calls.{ReplyOutcome}
 use Rattle.text.specs.Text.{hex_of}
 use Rattle.text.proofs.Appending.{same}
 use Rattle.session.specs.Answers.{reply_text}
-use borrow.Author.Rules.{rules}
 use Rattle.session.proofs.calls.reply.Goals as goal
 
 pub returns : goal.returns

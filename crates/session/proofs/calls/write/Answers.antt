@@ -9,7 +9,6 @@ use Rattle.text.proofs.Appending.{same}
 use Rattle.session.specs.Answers.{write_text, wrote}
 use Rattle.session.proofs.Answered.{said_as}
 use Rattle.script.proofs.Asked.{digits_taken, length-digits_taken}
-use borrow.Author.Rules.{rules}
 use Rattle.session.proofs.calls.write.Goals as goal
 
 pub slice_bounds-host_write-end : goal.slice_bounds-host_write-end

@@ -5,7 +5,6 @@ use Prim.Native.Nat.{ℕ}
 use Rattle.script.specs.Vocabulary.{frames_word}
 use Rattle.text.proofs.Appending.{same}
 use Rattle.answerlines.specs.Lines.{numbers_line}
-use borrow.Author.Rules.{rules}
 use Rattle.session.proofs.shows.frames.Goals as goal
 
 pub returns : goal.returns

@@ -4,17 +4,16 @@ use Rattle.model.specs.State.{state}
 use Rattle.script.specs.declared.Show.{Show}
 use Rattle.text.proofs.Appending.{same}
 use Rattle.session.specs.Answers.{show_text}
-use borrow.Author.Rules.{rules}
 use Rattle.session.proofs.shows.show.Goals as goal
 
 pub returns-in-Frames : goal.returns-in-Frames
 unfolding show_text
 returns-in-Frames c =
     let a = c.args in
-    same c.frames.ensures (ap (λ (x : Show). show_text x (state a.m a.main.now a.swap.now)) (sym c.enum_told-1.given.1))
+    same c.frames.ensures (ap (λ (x : Show). show_text x (state a.m a.main.now a.swap.now)) (sym c.in-Frames.is))
 
 pub returns-in-Sum : goal.returns-in-Sum
 unfolding show_text
 returns-in-Sum c =
     let a = c.args in
-    same c.sums_line.ensures (ap (λ (x : Show). show_text x (state a.m a.main.now a.swap.now)) (sym c.enum_told-in-Sum-1.given.1))
+    same c.sums_line.ensures (ap (λ (x : Show). show_text x (state a.m a.main.now a.swap.now)) (sym c.in-Sum.is))

@@ -9,23 +9,22 @@ use Rattle.session.specs.Desk.{desk, standing, changed}
 use Rattle.script.specs.Table.{change_row}
 use Rattle.script.proofs.Asked.{keeps_known}
 use Rattle.session.proofs.Telling.{changed_as}
-use borrow.Author.Rules.{rules}
 use Rattle.session.proofs.step.change.Goals as goal
 
 pub put_bytes-requires : goal.put_bytes-requires
 put_bytes-requires c =
-    omega (arith, c.requires.1, keeps_known change_row c.enum_told-1.given.1 c.args.n _ c.requires.3)
+    omega (arith, c.requires.1, keeps_known change_row c.in-Main.is c.args.n _ c.requires.3)
 
 pub put_bytes-requires-in-Swap : goal.put_bytes-requires-in-Swap
 put_bytes-requires-in-Swap c =
-    omega (arith, c.requires.2, keeps_known change_row c.enum_told-in-Swap-1.given.1 c.args.n _ c.requires.3)
+    omega (arith, c.requires.2, keeps_known change_row c.in-Swap.is c.args.n _ c.requires.3)
 
 pub returns-in-Main : goal.returns-in-Main
 unfolding changed
 returns-in-Main c =
     let a = c.args in
     let d = desk a.at a.main.now a.swap.now in (
-      changed_as c.enum_told-1.given.1 a.n (bytes_of a.digits.now) d
+      changed_as c.in-Main.is a.n (bytes_of a.digits.now) d
           (ap (λ (l : List ℕ). desk a.at l a.swap.now) c.put_bytes.ensures),
       c.requires.0,
     )
@@ -35,7 +34,7 @@ unfolding changed
 returns-in-Swap c =
     let a = c.args in
     let d = desk a.at a.main.now a.swap.now in (
-      changed_as c.enum_told-in-Swap-1.given.1 a.n (bytes_of a.digits.now) d
+      changed_as c.in-Swap.is a.n (bytes_of a.digits.now) d
           (ap (λ (l : List ℕ). desk a.at a.main.now l) c.put_bytes-in-Swap.ensures),
       c.requires.0,
     )
@@ -45,7 +44,7 @@ unfolding changed
 returns-in-Record c =
     let a = c.args in
     let d = desk a.at a.main.now a.swap.now in (
-      changed_as c.enum_told-in-Record-1.given.1 a.n (bytes_of a.digits.now) d
+      changed_as c.in-Record.is a.n (bytes_of a.digits.now) d
           (ap (λ (m : Machine). desk (standing m a.at.main a.at.swap) a.main.now a.swap.now) c.set_word-next.ensures),
       record { main_fits = c.requires.0.main_fits; swap_fits = c.requires.0.swap_fits },
     )
@@ -55,13 +54,13 @@ unfolding changed
 returns-in-Lend c =
     let a = c.args in
     let d = desk a.at a.main.now a.swap.now in (
-      changed_as c.enum_told-in-Lend-1.given.1 a.n (bytes_of a.digits.now) d refl,
-      let k = keeps_known change_row c.enum_told-in-Lend-1.given.1 a.n _ c.requires.3 in record { main_fits = k.0; swap_fits = k.1 },
+      changed_as c.in-Lend.is a.n (bytes_of a.digits.now) d refl,
+      let k = keeps_known change_row c.in-Lend.is a.n _ c.requires.3 in record { main_fits = k.0; swap_fits = k.1 },
     )
 
 pub set_spare-requires : goal.set_spare-requires
 set_spare-requires c =
-    let k = keeps_known change_row c.enum_told-in-Spare-1.given.1 c.args.n _ c.requires.3 in
+    let k = keeps_known change_row c.in-Spare.is c.args.n _ c.requires.3 in
     (omega (arith, c.requires.0.main_fits, c.requires.1), k.1)
 
 pub returns-in-Spare : goal.returns-in-Spare
@@ -69,7 +68,7 @@ unfolding changed
 returns-in-Spare c =
     let a = c.args in
     let d = desk a.at a.main.now a.swap.now in (
-      changed_as c.enum_told-in-Spare-1.given.1 a.n (bytes_of a.digits.now) d
+      changed_as c.in-Spare.is a.n (bytes_of a.digits.now) d
           (ap (λ (l : List ℕ). desk a.at l a.swap.now) c.set_spare.ensures),
       c.requires.0,
     )

@@ -1,11 +1,7 @@
 -- `line_end`: the bytes before i lie within the line.
-use mathlib.Core.Path.{◌≡◌, refl, ◌∙◌}
-use Prim.Native.Nat.{◌-◌, ◌≤◌}
+use mathlib.Core.Path.{refl, ◌∙◌}
 use native.Mathlib.Omega.{arith}
-use lib.ListN.{length}
-use Rattle.assembler.specs.Passes.{line_end}
 use Rattle.assembler.proofs.Lines.{end_newline, end_text, end_further}
-use borrow.Author.Rules.{rules}
 use Rattle.assembler.proofs.line_end.Goals as goal
 
 pub loop-i-init : goal.loop-i-init
@@ -16,7 +12,7 @@ bounds-text-i c = omega arith
 
 pub returns-then-text-i-eq10 : goal.returns-then-text-i-eq10
 returns-then-text-i-eq10 c =
-    (end_newline v.before.args.text.now v.loop.i c.if1.true ∙ v.loop.invariant.2, omega arith, omega arith)
+    (end_newline c.args.text.now c.loop-i.i c.if-text-i-eq10.true ∙ c.loop-i.invariant.2, omega arith, omega arith)
 
 pub overflow_add-i : goal.overflow_add-i
 overflow_add-i c = omega arith

@@ -1,10 +1,8 @@
 -- `line_end`: the bytes before i lie within the line.
-use mathlib.Core.Path.{◌≡◌, refl, ◌∙◌}
+use mathlib.Core.Path.{◌≡◌}
 use Prim.Native.Nat.{◌-◌, ◌≤◌}
-use native.Mathlib.Omega.{arith}
 use lib.ListN.{length}
 use Rattle.assembler.specs.Passes.{line_end}
-use Rattle.assembler.proofs.Lines.{end_newline, end_text, end_further}
 use Rattle.assembler.proofs.line_end.Given as goal
 
 abbrev pub invariant-loop-i : goal.invariant-loop-i

@@ -2,7 +2,6 @@
 use native.Mathlib.Omega.{arith}
 use lib.ListN.{length-set}
 use Rattle.assembler.proofs.Passes.{four_set}
-use borrow.Author.Rules.{rules}
 use Rattle.assembler.proofs.put_word.Goals as goal
 
 pub bounds-out-to-2 : goal.bounds-out-to-2

@@ -1,9 +1,6 @@
 -- `write`: the words of the lines before `at` stand in the output.
-use Prim.Native.Nat.{◌-◌}
 use native.Mathlib.Omega.{arith}
-use lib.ListN.{length}
-use Rattle.assembler.proofs.Passes.{Written, no_room, write_none, write_end, write_room, write_more}
-use borrow.Author.Rules.{rules}
+use Rattle.assembler.proofs.Passes.{no_room, write_none, write_end, write_room, write_more}
 use Rattle.assembler.proofs.write.Goals as goal
 
 pub returns-then-out-lines : goal.returns-then-out-lines

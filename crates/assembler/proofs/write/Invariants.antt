@@ -1,8 +1,7 @@
 -- `write`: the words of the lines before `at` stand in the output.
 use Prim.Native.Nat.{◌-◌}
-use native.Mathlib.Omega.{arith}
 use lib.ListN.{length}
-use Rattle.assembler.proofs.Passes.{Written, no_room, write_none, write_end, write_room, write_more}
+use Rattle.assembler.proofs.Passes.{Written}
 use Rattle.assembler.proofs.write.Given as goal
 
 abbrev pub invariant-loop-at : goal.invariant-loop-at

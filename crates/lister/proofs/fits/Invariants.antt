@@ -1,15 +1,10 @@
 -- `fits`: the lines from i on fit in what is left exactly where all of them fit in the room.
-use mathlib.Core.Path.{◌≡◌, refl, sym, ◌∙◌}
+use mathlib.Core.Path.{◌≡◌}
 use Prim.Native.Nat.{◌-◌, ◌≤◌}
-use native.Mathlib.Omega.{arith}
 use lib.Dec.{leb}
 use lib.ListN.{length, drop}
-use borrow.Author.Tests.{le-leb}
 use Rattle.notation.specs.Listing.{listing}
 use Rattle.notation.specs.Calls.{words_of}
-use Rattle.text.proofs.Appending.{length_appended}
-use Rattle.lister.proofs.Listings.{words_length, stands, all_fit, line_fits, line_over}
-use Rattle.grammar.proofs.Short.{listing_short}
 use Rattle.lister.proofs.fits.Given as goal
 
 abbrev pub invariant-loop-i : goal.invariant-loop-i

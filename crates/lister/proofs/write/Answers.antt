@@ -1,15 +1,11 @@
 -- `write`: after i words the lines of the first i stand in the buffer.
 use mathlib.Core.Path.{ap}
-use Prim.Native.Nat.{◌-◌, ◌≤◌}
 use native.Mathlib.Omega.{arith}
-use lib.ListN.{take}
 use lib.Seq.{take_all}
-use Rattle.text.specs.Text.{Appended}
 use Rattle.text.proofs.Appending.{nothing, joined, same, length_appended}
 use Rattle.notation.specs.Listing.{listing}
 use Rattle.notation.specs.Calls.{words_of}
 use Rattle.lister.proofs.Listings.{words_length, stands, no_lines, line_more, line_room}
-use borrow.Author.Rules.{rules}
 use Rattle.lister.proofs.write.Goals as goal
 
 pub loop-i-init : goal.loop-i-init

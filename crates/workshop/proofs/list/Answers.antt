@@ -1,7 +1,6 @@
 -- `list`: its three ways.
 use native.Mathlib.Omega.{arith}
 use Rattle.workshop.proofs.Works.{refused, made, words_long, words_good, words_bad}
-use borrow.Author.Rules.{rules}
 use Rattle.workshop.proofs.list.Goals as goal
 
 pub returns-then-input-gt65536 : goal.returns-then-input-gt65536
@@ -12,10 +11,10 @@ returns-then-input-gt65536 c =
 pub returns-in-Listed : goal.returns-in-Listed
 returns-in-Listed c =
     let a = c.args in
-    made _ (words_good a.input.now a.out.now (omega arith) _ _ c.list.ensures _ c.length-1.given.1)
+    made _ (words_good a.input.now a.out.now (omega arith) _ _ c.list.ensures _ c.in-Listed.is)
 
 pub returns-in-NotListed : goal.returns-in-NotListed
 returns-in-NotListed c =
     let a = c.args in
     refused c.refused-in-NotListed.ensures
-    (words_bad a.input.now a.out.now (omega arith) _ _ c.list.ensures _ c.refusal-1.given.1)
+    (words_bad a.input.now a.out.now (omega arith) _ _ c.list.ensures _ c.in-NotListed.is)

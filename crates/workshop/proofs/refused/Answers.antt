@@ -2,7 +2,6 @@
 use mathlib.Core.Path.{refl, ap}
 use Rattle.model.specs.Console.{refused_line}
 use Rattle.text.proofs.Appending.{same}
-use borrow.Author.Rules.{rules}
 use Rattle.workshop.proofs.refused.Goals as goal
 
 pub returns : goal.returns

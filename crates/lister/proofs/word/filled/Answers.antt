@@ -1,13 +1,12 @@
 -- `filled`: after k pieces the rest of them fill the same word.
-use mathlib.Core.Path.{◌≡◌, sym, ap, ◌∙◌}
-use Prim.Native.Nat.{◌+◌, ◌-◌, ◌*◌, ◌≤◌}
+use mathlib.Core.Path.{sym, ap, ◌∙◌}
+use Prim.Native.Nat.{◌+◌}
 use native.Mathlib.Omega.{arith}
 use lib.ListN.{drop, drop_of_length-le}
 use Rattle.notation.specs.Listing.{with_piece, filled}
 use Rattle.notation.specs.declared.Piece.TheVariants.{Mark}
 use Rattle.mnemonics.specs.Rows.{row_at}
 use Rattle.lister.proofs.Pieces.{filled_none, filled_next}
-use borrow.Author.Rules.{rules}
 use Rattle.lister.proofs.word.filled.Goals as goal
 
 pub loop-k-init : goal.loop-k-init

@@ -1,12 +1,9 @@
 -- `filled`: after k pieces the rest of them fill the same word.
-use mathlib.Core.Path.{◌≡◌, sym, ap, ◌∙◌}
+use mathlib.Core.Path.{◌≡◌}
 use Prim.Native.Nat.{◌+◌, ◌-◌, ◌*◌, ◌≤◌}
-use native.Mathlib.Omega.{arith}
-use lib.ListN.{drop, drop_of_length-le}
-use Rattle.notation.specs.Listing.{with_piece, filled}
-use Rattle.notation.specs.declared.Piece.TheVariants.{Mark}
+use lib.ListN.{drop}
+use Rattle.notation.specs.Listing.{filled}
 use Rattle.mnemonics.specs.Rows.{row_at}
-use Rattle.lister.proofs.Pieces.{filled_none, filled_next}
 use Rattle.lister.proofs.word.filled.Given as goal
 
 abbrev pub invariant-loop-k : goal.invariant-loop-k

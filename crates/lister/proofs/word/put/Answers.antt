@@ -4,12 +4,11 @@ use native.Mathlib.Omega.{arith}
 use lib.ListN.{length-set}
 use Rattle.text.proofs.Appending.{byte, joined, same, length_appended}
 use Rattle.lister.proofs.Rows.{a_row, no_row, not_filled, by_name}
-use borrow.Author.Rules.{rules}
 use Rattle.lister.proofs.word.put.Goals as goal
 
 pub returns-then-row-eq-ROWS : goal.returns-then-row-eq-ROWS
 returns-then-row-eq-ROWS c =
-    same c.put-number.ensures.0 (no_row c.args.w _ c.keyed-row.ensures c.if-row-eq-ROWS.true)
+    same c.put_number.ensures.0 (no_row c.args.w _ c.keyed-row.ensures c.if-row-eq-ROWS.true)
 
 pub filled-full-requires : goal.filled-full-requires
 filled-full-requires c =
@@ -43,6 +42,6 @@ returns c =
     let name = c.put_name-to in
     let w = c.args.w in
     let one = a_row w _ c.keyed-row.ensures c.if-row-eq-ROWS.false in
-    let space = byte name.new.0 name.result 32 (omega (arith, length_appended name.ensures.0)) in
+    let space = byte name.new.out name.result 32 (omega (arith, length_appended name.ensures.0)) in
     same (joined name.ensures.0 (joined space c.put_pieces.ensures))
     (by_name w _ c.keyed-row.ensures one (sym c.filled-full.ensures ∙ c.if-full-w.false))

@@ -1,13 +1,12 @@
 -- `put_line`: the line and its newline, put at once or made in a buffer and copied.
 use native.Mathlib.Omega.{arith}
 use Rattle.text.proofs.Appending.{byte, joined, same, length_appended, counted, written}
-use borrow.Author.Rules.{rules}
 use Rattle.lister.proofs.word.put_line.Goals as goal
 
 pub returns-then-out-at-ge80 : goal.returns-then-out-at-ge80
 returns-then-out-at-ge80 c =
-    let line = c.put in
-    joined line.ensures (byte line.new.0 line.result 10 (omega (arith, length_appended line.ensures)))
+    let line = c.put-to in
+    joined line.ensures (byte line.new.out line.result 10 (omega (arith, length_appended line.ensures)))
 
 pub slice_bounds-put-end-2 : goal.slice_bounds-put-end-2
 slice_bounds-put-end-2 c = counted c.put-n.ensures
@@ -24,4 +23,4 @@ returns c =
     let line = c.put-n in
     let copy = c.put-end in
     joined (same copy.ensures (written line.ensures))
-    (byte copy.new.0 copy.result 10 (omega (arith, counted line.ensures, length_appended copy.ensures)))
+    (byte copy.new.out copy.result 10 (omega (arith, counted line.ensures, length_appended copy.ensures)))

@@ -1,17 +1,14 @@
 -- `put_pieces`: after k pieces the text of the first k stands in the buffer.
 use mathlib.Core.Path.{sym, ap, ◌∙◌}
 use mathlib.Core.List.{◌++◌}
-use Prim.Native.Nat.{◌+◌, ◌-◌, ◌*◌, ◌≤◌}
 use native.Mathlib.Omega.{arith}
 use lib.ListN.{take}
 use lib.Seq.{take_all}
-use Rattle.text.specs.Text.{Appended}
 use Rattle.text.proofs.Appending.{nothing, joined, same, length_appended}
 use Rattle.notation.specs.Listing.{piece_text, pieces_text}
 use Rattle.notation.specs.declared.Piece.TheVariants.{Mark}
 use Rattle.mnemonics.specs.Rows.{row_at}
 use Rattle.lister.proofs.Pieces.{text_none, text_next}
-use borrow.Author.Rules.{rules}
 use Rattle.lister.proofs.word.put_pieces.Goals as goal
 
 pub loop-k-init : goal.loop-k-init

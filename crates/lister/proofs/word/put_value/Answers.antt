@@ -4,7 +4,6 @@ use native.Mathlib.Omega.{arith}
 use lib.ListN.{length-set}
 use Rattle.text.proofs.Appending.{byte, joined, same, length_appended}
 use Rattle.lister.proofs.Pieces.{value_below, value_plain}
-use borrow.Author.Rules.{rules}
 use Rattle.lister.proofs.word.put_value.Goals as goal
 
 pub put_number-requires : goal.put_number-requires
@@ -16,7 +15,7 @@ shape_of-out-then-signed-size c = length_appended c.put_number.ensures.0 ∙ sim
 pub returns-then-signed-size : goal.returns-then-signed-size
 returns-then-signed-size c =
     let a = c.args in
-    let put = c.put-number in (
+    let put = c.put_number in (
       same (joined (byte a.out.now a.at 45 (omega arith)) put.ensures.0)
           (sym (value_below a.size a.signed a.x c.if-signed-size.true)),
       omega arith,

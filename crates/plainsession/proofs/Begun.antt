@@ -27,7 +27,7 @@ use Rattle.plainmodel.specs.Load.{room, load_verdict, LoadOutcome, load_by, load
 use Rattle.plainmodel.specs.declared.Plain.{Plain}
 use Rattle.plainsession.specs.Desk.{Desk, desk, standing, lent, handed_back, told_of, Tells}
 use Rattle.plainsession.specs.Ready.{Lent}
-use Rattle.plainsession.specs.Series.{turned_away, loaded_into, lent_for, loaded, begun, Read, TurnedAway}
+use Rattle.plainsession.specs.Series.{turned_away, lent_for, loaded, begun, Read, TurnedAway}
 use Rattle.plainsession.specs.declared.Told.{Told}
 
 -- ---- loading, by its answer

@@ -1,21 +1,12 @@
 -- `speak`: between two lines, what is said and what is still to be said are together what was to be said.
 use Prim.Native.Nat.{◌-◌}
 use native.Mathlib.Omega.{arith}
-use lib.ListN.{length, drop, length-take}
-use Rattle.text.proofs.Appending.{within, length_appended}
-use Rattle.talk.specs.Stretch.{point}
-use Rattle.talk.proofs.Talking.{Between, at_first, line_left, answer_fits, goes_on, ends, done}
-use Rattle.plainsession.specs.Desk.{desk, spoken}
-use Rattle.plainsession.specs.Ready.{Room, Lent}
+use lib.ListN.{drop, length-take}
+use Rattle.text.proofs.Appending.{length_appended}
+use Rattle.talk.proofs.Talking.{at_first, line_left, answer_fits, goes_on, ends, done}
+use Rattle.plainsession.specs.Desk.{spoken}
 use Rattle.plainsession.proofs.Roomy.{room_kept}
-use borrow.Author.Rules.{rules}
 use Rattle.plainsession.proofs.speak.Goals as goal
-
-sub-loop : tie.Need-overflow-sub-loop invariant-loop decreases-loop
-sub-loop c = within c.loop.invariant.0.text
-
-sub-step : tie.Need-overflow-sub-step invariant-loop decreases-loop
-sub-step c = omega (arith, c.before.before.find.ensures.0)
 
 pub loop-place-init : goal.loop-place-init
 loop-place-init c =
@@ -31,51 +22,50 @@ overflow_add-number c =
     omega (arith, line_left spoken c.loop-place.invariant.0 c.loop-place-test.true, c.loop-place.invariant.0.numbered, c.requires.2)
 
 pub slice_bounds-step-start : goal.slice_bounds-step-start
-slice_bounds-step-start c = omega (arith, c.find-end.ensures.0, c.find-end.ensures.1)
+slice_bounds-step-start c = omega (arith, c.find-end.ensures.place, c.find-end.ensures.within)
 
 pub slice_bounds-step-end : goal.slice_bounds-step-end
-slice_bounds-step-end c = omega (arith, c.find-end.ensures.0, c.find-end.ensures.1)
+slice_bounds-step-end c = omega (arith, c.find-end.ensures.place, c.find-end.ensures.within)
 
 pub step-told-requires : goal.step-told-requires
-step-told-requires c =
-    (
-      record {
-        lent = c.loop-place.invariant.1;
-        room = c.loop-place.invariant.2;
-        left = answer_fits spoken c.loop-place.invariant.0 c.loop-place-test.true;
-      },
-      omega (
-        arith,
-        length-take (c.find-end.result - c.loop-place.place) (drop c.loop-place.place c.args.script.now),
-        c.find-end.ensures.1,
-        c.requires.2,
-      ),
-    )
+step-told-requires c = (
+  record {
+    lent = c.loop-place.invariant.1;
+    room = c.loop-place.invariant.2;
+    left = answer_fits spoken c.loop-place.invariant.0 c.loop-place-test.true;
+  },
+  omega (
+    arith,
+    length-take (c.find-end.result - c.loop-place.place) (drop c.loop-place.place c.args.script.now),
+    c.find-end.ensures.within,
+    c.requires.2,
+  ),
+)
 
 pub overflow_add-place : goal.overflow_add-place
 overflow_add-place c =
-    omega (arith, c.find-end.ensures.1, c.requires.2)
+    omega (arith, c.find-end.ensures.within, c.requires.2)
 
 pub loop-place-smaller-then-told : goal.loop-place-smaller-then-told
 loop-place-smaller-then-told c =
-    omega (arith, line_left spoken c.loop-place.invariant.0 c.loop-place-test.true, c.find-end.ensures.0)
+    omega (arith, line_left spoken c.loop-place.invariant.0 c.loop-place-test.true, c.find-end.ensures.place)
 
 pub loop-place-preserved-then-told : goal.loop-place-preserved-then-told
 loop-place-preserved-then-told c =
     let told = c.step-told.ensures in (
-      goes_on spoken c.loop-place.invariant.0 c.loop-place-test.true c.find-end.result c.find-end.ensures.0 told.0 c.if-told.true,
+      goes_on spoken c.loop-place.invariant.0 c.loop-place-test.true c.find-end.result c.find-end.ensures.place told.0 c.if-told.true,
       told.1,
       room_kept c.loop-place.invariant.2 (omega arith) (omega arith) (length_appended told.0.text),
     )
 
 pub loop-place-smaller : goal.loop-place-smaller
 loop-place-smaller c =
-    omega (arith, line_left spoken c.loop-place.invariant.0 c.loop-place-test.true, c.find-end.ensures.0)
+    omega (arith, line_left spoken c.loop-place.invariant.0 c.loop-place-test.true, c.find-end.ensures.place)
 
 pub loop-place-preserved : goal.loop-place-preserved
 loop-place-preserved c =
     let told = c.step-told.ensures in (
-      ends spoken c.loop-place.invariant.0 c.loop-place-test.true c.find-end.result c.find-end.ensures.0 told.0 c.if-told.false,
+      ends spoken c.loop-place.invariant.0 c.loop-place-test.true c.find-end.result c.find-end.ensures.place told.0 c.if-told.false,
       told.1,
       room_kept c.loop-place.invariant.2 (omega arith) (omega arith) (length_appended told.0.text),
     )
@@ -94,4 +84,4 @@ shape_of-out c = length_appended c.loop-place.invariant.0.text
 pub returns : goal.returns
 returns c =
     let b = c.loop-place.invariant in
-    ((b.1, b.0.numbered), done spoken b.0 c.loop-place-test.false)
+    record { lent = (b.1, b.0.numbered); goes = done spoken b.0 c.loop-place-test.false }

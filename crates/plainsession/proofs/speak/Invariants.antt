@@ -1,13 +1,10 @@
 -- `speak`: between two lines, what is said and what is still to be said are together what was to be said.
 use Prim.Native.Nat.{◌-◌}
-use native.Mathlib.Omega.{arith}
-use lib.ListN.{length, drop, length-take}
-use Rattle.text.proofs.Appending.{within, length_appended}
+use lib.ListN.{length}
 use Rattle.talk.specs.Stretch.{point}
-use Rattle.talk.proofs.Talking.{Between, at_first, line_left, answer_fits, goes_on, ends, done}
+use Rattle.talk.proofs.Talking.{Between}
 use Rattle.plainsession.specs.Desk.{desk, spoken}
 use Rattle.plainsession.specs.Ready.{Room, Lent}
-use Rattle.plainsession.proofs.Roomy.{room_kept}
 use Rattle.plainsession.proofs.speak.Given as goal
 
 abbrev pub invariant-loop-place : goal.invariant-loop-place

@@ -4,7 +4,6 @@ use Rattle.model.specs.Console.{refused_line}
 use Rattle.text.proofs.Appending.{same}
 use Rattle.plainmodel.specs.declared.PlainHanded.{PlainHanded}
 use Rattle.plainsession.specs.Desk.{desk, standing}
-use borrow.Author.Rules.{rules}
 use Rattle.plainsession.proofs.turned_away.Goals as goal
 
 pub returns : goal.returns

@@ -7,51 +7,50 @@ use Rattle.plainmodel.specs.State.{plain_state}
 use Rattle.plainmodel.specs.declared.Plain.{Plain}
 use Rattle.plainsession.specs.Answers.{answered}
 use Rattle.plainsession.proofs.Answered.{answered_as}
-use borrow.Author.Rules.{rules}
 use Rattle.plainsession.proofs.calls.answer.Goals as goal
 
 pub read-requires : goal.read-requires
 read-requires c =
-    (start.requires.0, (keeps_known call_row c.enum_told-in-Read-1.given.1 start.args.n _ start.requires.2).1)
+    (c.requires.0, (keeps_known call_row c.in-Read.is c.args.n _ c.requires.2).1)
 
 pub returns-in-Run : goal.returns-in-Run
 unfolding answered
 returns-in-Run c =
     let a = c.args in
-    answered_as c.enum_told-1.given.1 a.n (bytes_of a.digits.now) (plain_state a.m a.memory.now a.rights.now)
+    answered_as c.in-Run.is a.n (bytes_of a.digits.now) (plain_state a.m a.memory.now a.rights.now)
     c.run.ensures
 
 pub returns-in-Read : goal.returns-in-Read
 unfolding answered
 returns-in-Read c =
-    let a = at_told.before.before.before.before.before.before.args in
-    answered_as c.enum_told-in-Read-1.given.1 a.n (bytes_of a.digits.now) (plain_state a.m a.memory.now a.rights.now)
+    let a = c.args in
+    answered_as c.in-Read.is a.n (bytes_of a.digits.now) (plain_state a.m a.memory.now a.rights.now)
     (record { text = c.read.ensures.1; state = ap (λ (m : Plain). plain_state m a.memory.now a.rights.now) c.read.ensures.0 })
 
 pub returns-in-Write : goal.returns-in-Write
 unfolding answered
 returns-in-Write c =
     let a = c.args in
-    answered_as c.enum_told-in-Write-1.given.1 a.n (bytes_of a.digits.now) (plain_state a.m a.memory.now a.rights.now)
+    answered_as c.in-Write.is a.n (bytes_of a.digits.now) (plain_state a.m a.memory.now a.rights.now)
     c.write.ensures
 
 pub returns-in-View : goal.returns-in-View
 unfolding answered
 returns-in-View c =
-    let a = at_told.before.before.before.before.before.before.args in
-    answered_as c.enum_told-in-View-1.given.1 a.n (bytes_of a.digits.now) (plain_state a.m a.memory.now a.rights.now)
+    let a = c.args in
+    answered_as c.in-View.is a.n (bytes_of a.digits.now) (plain_state a.m a.memory.now a.rights.now)
     (record { text = c.view.ensures.1; state = ap (λ (m : Plain). plain_state m a.memory.now a.rights.now) c.view.ensures.0 })
 
 pub returns-in-Reply : goal.returns-in-Reply
 unfolding answered
 returns-in-Reply c =
     let a = c.args in
-    answered_as c.enum_told-in-Reply-1.given.1 a.n (bytes_of a.digits.now) (plain_state a.m a.memory.now a.rights.now)
+    answered_as c.in-Reply.is a.n (bytes_of a.digits.now) (plain_state a.m a.memory.now a.rights.now)
     (record { text = c.reply.ensures.1; state = ap (λ (m : Plain). plain_state m a.memory.now a.rights.now) c.reply.ensures.0 })
 
 pub returns-in-Registers : goal.returns-in-Registers
 unfolding answered
 returns-in-Registers c =
     let a = c.args in
-    answered_as c.enum_told-in-Registers-1.given.1 a.n (bytes_of a.digits.now) (plain_state a.m a.memory.now a.rights.now)
+    answered_as c.in-Registers.is a.n (bytes_of a.digits.now) (plain_state a.m a.memory.now a.rights.now)
     (record { text = c.registers.ensures.1; state = ap (λ (m : Plain). plain_state m a.memory.now a.rights.now) c.registers.ensures.0 })

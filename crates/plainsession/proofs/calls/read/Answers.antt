@@ -12,15 +12,7 @@ use Rattle.text.proofs.Appending.{same}
 use Rattle.answerlines.specs.Lines.{hex_line}
 use Rattle.plainsession.specs.Answers.{read_text}
 use Rattle.script.proofs.Asked.{take-zeros, length-zeros, part_filled, length_part, length-filled}
-use borrow.Author.Rules.{rules}
 use Rattle.plainsession.proofs.calls.read.Goals as goal
-
-slice-aggregate-verdict-line-2 : tie.Need-slice-aggregate-verdict-line-2
-slice-aggregate-verdict-line-2 c =
-    let at-host-read = c.before.before.before.before in
-    let start = at-host-read.before.before.before.before.before.before in
-    let r = at-host-read.host_read in
-    sym (length_part start.args.n.second 512 start.requires.1 r.new.1.1.1.1.0 r.auto.1.1.1.1.0)
 
 pub slice_bounds-host_read-end : goal.slice_bounds-host_read-end
 slice_bounds-host_read-end c =
@@ -29,12 +21,12 @@ slice_bounds-host_read-end c =
 pub slice_bounds-space-end-2 : goal.slice_bounds-space-end-2
 slice_bounds-space-end-2 c =
     let r = c.host_read-verdict in
-    omega (arith, c.requires.1, length-filled c.args.n.second 512 c.requires.1 r.new.1.1.1.1.0 r.auto.1.1.1.1.0)
+    omega (arith, c.requires.1, length-filled c.args.n.second 512 c.requires.1 r.new.into r.auto.into)
 
 pub verdict_line-requires : goal.verdict_line-requires
 verdict_line-requires c =
     let r = c.host_read-verdict in
-    let long = length_part c.args.n.second 512 c.requires.1 r.new.1.1.1.1.0 r.auto.1.1.1.1.0 in
+    let long = length_part c.args.n.second 512 c.requires.1 r.new.into r.auto.into in
     (omega (arith, c.requires.0, c.requires.1, long), omega arith)
 
 pub returns : goal.returns
@@ -42,7 +34,7 @@ returns c =
     let a = c.args in
     let k = a.n.second in
     let r = c.host_read-verdict in
-    let part = part_filled k 512 c.requires.1 r.new.1.1.1.1.0 r.auto.1.1.1.1.0 in (
+    let part = part_filled k 512 c.requires.1 r.new.into r.auto.into in (
       c.left.ensures.0,
       rw c.left.ensures.1 (same c.verdict_line.ensures
           (ap (λ (l : List ℕ). or_refused (verdict_numbers r.result) (hex_line (read_word ++ (32 ∷ [])) l)) part

@@ -4,7 +4,6 @@ use Rattle.text.specs.Text.{hex_of}
 use Rattle.text.proofs.Appending.{same}
 use Rattle.plainmodel.specs.Calls.{ReplyOutcome}
 use Rattle.plainsession.specs.Answers.{reply_text}
-use borrow.Author.Rules.{rules}
 use Rattle.plainsession.proofs.calls.reply.Goals as goal
 
 pub returns : goal.returns

@@ -13,7 +13,6 @@ use Rattle.script.specs.Vocabulary.{view_word}
 use Rattle.text.proofs.Appending.{same}
 use Rattle.answerlines.specs.Lines.{hex_line}
 use Rattle.plainsession.proofs.Viewed.{view_short}
-use borrow.Author.Rules.{rules}
 use Rattle.plainsession.proofs.calls.view.Goals as goal
 
 pub verdict_line-requires : goal.verdict_line-requires

@@ -1,5 +1,5 @@
 -- `calls::write`: from the bytes of the digits.
-use mathlib.Core.Path.{ap, ap₂}
+use mathlib.Core.Path.{ap}
 use mathlib.Core.List.{List}
 use Prim.Native.Nat.{ℕ}
 use Rattle.text.specs.Text.{hex_of}
@@ -7,10 +7,8 @@ use Rattle.text.proofs.Appending.{same}
 use Rattle.script.proofs.Asked.{digits_taken, length-digits_taken}
 use Rattle.plainmodel.specs.State.{plain_state}
 use Rattle.plainmodel.specs.Calls.{WriteOutcome, write_call}
-use Rattle.plainmodel.specs.declared.Plain.{Plain}
 use Rattle.plainsession.specs.Answers.{write_text, wrote}
 use Rattle.plainsession.proofs.Answered.{said_as}
-use borrow.Author.Rules.{rules}
 use Rattle.plainsession.proofs.calls.write.Goals as goal
 
 pub slice_bounds-host_write-end : goal.slice_bounds-host_write-end

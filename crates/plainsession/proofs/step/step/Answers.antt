@@ -12,37 +12,23 @@ use Rattle.plainsession.specs.Table.{change_row}
 use Rattle.plainsession.proofs.Reading.{line_known}
 use Rattle.plainsession.proofs.Spelled.{word_short, word_spelled_at}
 use Rattle.plainsession.proofs.Telling.{call_told, sum_told, changed_told, bad_told}
-use borrow.Author.Rules.{rules}
 use Rattle.plainsession.proofs.step.step.Goals as goal
 
-sub-digits : tie.Need-overflow-sub-digits
-sub-digits c =
-    let at_c = c.before in
-    let at-parse = at_c.before.before in
-    (line_known at-parse.before.before.before.before.before.before.args.line.now at-parse.parse.ensures at_c.c.given.1).0
+pub slice_bounds-digits-count : goal.slice_bounds-digits-count
+slice_bounds-digits-count c =
+    (line_known c.args.line.now c.parse.ensures c.in-Calls.is).0
 
-slice-aggregate-sums-line-3 : tie.Need-slice-aggregate-sums-line-3
-slice-aggregate-sums-line-3 c =
-    let start = c.before.before.before.before.before.before.before.before.before.before.before.before in
-    let a = start.args in
-    lent_long a.at.rights a.rights.now 80 start.requires.0.lent.rights_fits start.requires.0.room.rights_long
+pub slice_bounds-change-count : goal.slice_bounds-change-count
+slice_bounds-change-count c =
+    (line_known c.args.line.now c.parse.ensures c.in-Changes.is).0
 
-sub-change : tie.Need-overflow-sub-change
-sub-change c =
-    let at-c2 = c.before.before.before in
-    let at-parse = at-c2.before.before in
-    (line_known at-parse.before.before.before.before.before.before.args.line.now at-parse.parse.ensures at-c2.c2.given.1).0
-
-cast-t62 : tie.Need-overflow-cast-t62
-cast-t62 c =
-    let at-column = c.before in
-    let at-parse = at-column.before.before in
-    let start = at-parse.before.before.before.before.before.before in
-    omega (arith, start.requires.1, line_known start.args.line.now at-parse.parse.ensures at-column.column.given.1)
+pub overflow_cast-bad : goal.overflow_cast-bad
+overflow_cast-bad c =
+    omega (arith, c.requires.1, line_known c.args.line.now c.parse.ensures c.in-Bad.is)
 
 pub slice_bounds-digits-start : goal.slice_bounds-digits-start
 slice_bounds-digits-start c =
-    (line_known c.args.line.now c.parse.ensures c.c-1.given.1).0
+    (line_known c.args.line.now c.parse.ensures c.in-Calls.is).0
 
 pub slice_bounds-answer-end-in-Calls : goal.slice_bounds-answer-end-in-Calls
 slice_bounds-answer-end-in-Calls c =
@@ -51,63 +37,63 @@ slice_bounds-answer-end-in-Calls c =
 
 pub slice_bounds-answer-end-in-Calls-3 : goal.slice_bounds-answer-end-in-Calls-3
 slice_bounds-answer-end-in-Calls-3 c =
-    let a = start.args in
-    lent_long a.at.rights a.rights.now 80 start.requires.0.lent.rights_fits start.requires.0.room.rights_long
+    let a = c.args in
+    lent_long a.at.rights a.rights.now 80 c.requires.0.lent.rights_fits c.requires.0.room.rights_long
 
 pub answer-done-requires : goal.answer-done-requires
 answer-done-requires c =
-    let l = start.args.line.now in
-    let g = c.c-1.given in
-    let n = g.0.1.0 in
-    (omega (arith, start.requires.0.left), short_rest l n.hex start.requires.1, rest_keeps l n.hex (call_row g.0.0) n (line_known l c.parse.ensures g.1).1)
+    let l = c.args.line.now in
+    let g = c.in-Calls in
+    let n = g.n in
+    (omega (arith, c.requires.0.left), short_rest l n.hex c.requires.1, rest_keeps l n.hex (call_row g.c) n (line_known l c.parse.ensures g.is).1)
 
 pub slice_bounds-sums_line-end-in-Sum-4 : goal.slice_bounds-sums_line-end-in-Sum-4
 slice_bounds-sums_line-end-in-Sum-4 c =
     let a = c.args in
-    lent_long a.at.memory a.memory.now 327680 c.requires.0.lent.memory_fits c.requires.0.room.memory_long
+    lent_long a.at.rights a.rights.now 80 c.requires.0.lent.rights_fits c.requires.0.room.rights_long
 
 pub slice_bounds-change-start : goal.slice_bounds-change-start
 slice_bounds-change-start c =
-    (line_known c.args.line.now c.parse.ensures c.c-in-Changes-1.given.1).0
+    (line_known c.args.line.now c.parse.ensures c.in-Changes.is).0
 
 pub change-next-requires : goal.change-next-requires
 change-next-requires c =
     let l = c.args.line.now in
-    let g = c.c-in-Changes-1.given in
-    let n = g.0.1.0 in
-    (c.requires.0.lent, c.requires.0.room.memory_long, c.requires.0.room.rights_long, rest_keeps l n.hex (change_row g.0.0) n (line_known l c.parse.ensures g.1).1)
+    let g = c.in-Changes in
+    let n = g.n in
+    (c.requires.0.lent, c.requires.0.room.memory_long, c.requires.0.room.rights_long, rest_keeps l n.hex (change_row g.c) n (line_known l c.parse.ensures g.is).1)
 
 pub slice_bounds-hex_line-end : goal.slice_bounds-hex_line-end
 slice_bounds-hex_line-end c =
-    sym (length-take-le c.find-word.result start.args.line.now (omega (arith, c.find-word.ensures.1)))
+    sym (length-take-le c.find-word.result c.args.line.now (omega (arith, c.find-word.ensures.within)))
 
 pub hex_line-requires : goal.hex_line-requires
 hex_line-requires c =
-    let g = c.c-in-Changes-1.given in
-    let word = word_spelled_at c.args.line.now c.parse.ensures g.0.0 g.0.1.0 g.1 c.find-word.result c.find-word.ensures.0 in
-    omega (arith, ap length word, word_short g.0.0, c.requires.0.left)
+    let g = c.in-Changes in
+    let word = word_spelled_at c.args.line.now c.parse.ensures g.c g.n g.is c.find-word.result c.find-word.ensures.place in
+    omega (arith, ap length word, word_short g.c, c.requires.0.left)
 
 pub returns-in-Calls : goal.returns-in-Calls
 returns-in-Calls c =
-    let a = start.args in
-    let g = c.c-1.given in
-    call_told a.number a.line.now a.at a.memory.now a.rights.now c.parse.ensures g.0.0 g.0.1.0 g.1
-    c.told.ensures c.answer-done.ensures start.requires.0.lent
+    let a = c.args in
+    let g = c.in-Calls in
+    call_told a.number a.line.now a.at a.memory.now a.rights.now c.parse.ensures g.c g.n g.is
+    c.told.ensures c.answer-done.ensures c.requires.0.lent
 
 pub returns-in-Sum : goal.returns-in-Sum
 returns-in-Sum c =
-    let a = start.args in
-    sum_told a.number a.line.now a.at a.memory.now a.rights.now c.parse.ensures c.enum_told-1.given.1
-    c.told-in-Sum.ensures c.sums_line-to.ensures start.requires.0.lent
+    let a = c.args in
+    sum_told a.number a.line.now a.at a.memory.now a.rights.now c.parse.ensures c.in-Sum.is
+    c.told-in-Sum.ensures c.sums_line-to.ensures c.requires.0.lent
 
 pub returns-in-Changes : goal.returns-in-Changes
 unfolding hex_of
 returns-in-Changes c =
     let a = c.args in
-    let g = c.c-in-Changes-1.given in
-    let word = word_spelled_at a.line.now c.parse.ensures g.0.0 g.0.1.0 g.1 c.find-word.result c.find-word.ensures.0 in
+    let g = c.in-Changes in
+    let word = word_spelled_at a.line.now c.parse.ensures g.c g.n g.is c.find-word.result c.find-word.ensures.place in
     let left = c.change-next.ensures in (
-      changed_told a.number a.line.now a.at a.memory.now a.rights.now c.parse.ensures g.0.0 g.0.1.0 g.1
+      changed_told a.number a.line.now a.at a.memory.now a.rights.now c.parse.ensures g.c g.n g.is
           (record { desk_is = left.0; text = same c.hex_line.ensures (ap word_line word); goes = refl }),
       left.1,
     )
@@ -115,6 +101,6 @@ returns-in-Changes c =
 pub returns-in-Bad : goal.returns-in-Bad
 returns-in-Bad c =
     let a = c.args in
-    let g = c.column-1.given in
-    bad_told a.number a.line.now a.at a.memory.now a.rights.now c.parse.ensures g.0.0 g.1
+    let g = c.in-Bad in
+    bad_told a.number a.line.now a.at a.memory.now a.rights.now c.parse.ensures g.column g.is
     c.told-in-Bad.ensures c.numbers_line.ensures c.requires.0.lent

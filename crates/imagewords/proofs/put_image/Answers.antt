@@ -4,7 +4,7 @@ use borrow.Author.Rules.{rules}
 use Rattle.imagewords.proofs.put_image.Goals as goal
 
 pub returns-in-Image : goal.returns-in-Image
-returns-in-Image c = is_image _ _ _ _ c.a-1.given.1 _ c.put_three.ensures
+returns-in-Image c = is_image _ _ _ _ c.in-Image.is _ c.put_three.ensures
 
 pub returns-in-NotImage : goal.returns-in-NotImage
-returns-in-NotImage c = not_image _ _ c.a-in-NotImage-1.given.1 _ c.refusal_number.ensures _ c.put_three-in-NotImage.ensures
+returns-in-NotImage c = not_image _ _ c.in-NotImage.is _ c.refusal_number.ensures _ c.put_three-in-NotImage.ensures

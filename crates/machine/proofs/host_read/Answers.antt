@@ -1,4 +1,5 @@
 -- `host_read`: refused, or the buffer is filled.
+use mathlib.Core.Path.{refl}
 use Rattle.model.specs.State.{state}
 use Rattle.machine.proofs.Outcomes.{read_refused, read_done}
 use Rattle.host.proofs.Leans.{host_leans}
@@ -10,13 +11,13 @@ pub read_bytes-requires : goal.read_bytes-requires
 read_bytes-requires c =
     let a = c.args in
     host_leans (state a.m a.main.now a.swap.now) (held_length a.m _ c.well_formed.0) _ _ _ _
-    c.host_verdict.ensures c.enum_told-1.given.1
+    c.in-Granted.ensures refl
 
 pub returns-in-Refused : goal.returns-in-Refused
-returns-in-Refused c = read_refused _ _ _ _ c.host_verdict.ensures _ c.r-1.given.1
+returns-in-Refused c = read_refused _ _ _ _ c.in-Refused.ensures _ refl
 
 pub returns-in-Granted : goal.returns-in-Granted
 returns-in-Granted c =
     let a = c.args in
-    read_done (state a.m a.main.now a.swap.now) _ _ _ c.host_verdict.ensures c.enum_told-1.given.1 _
+    read_done (state a.m a.main.now a.swap.now) _ _ _ c.in-Granted.ensures refl _
     c.read_bytes.ensures

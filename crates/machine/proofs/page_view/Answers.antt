@@ -12,12 +12,12 @@ pub page_part-requires : goal.page_part-requires
 page_part-requires c =
     let a = c.args in
     view_leans (state a.m a.main.now a.swap.now) (held_length a.m _ c.well_formed.0) _ _
-    c.view_verdict.ensures c.enum_told-in-Granted-1.given.1
+    c.in-Granted.ensures refl
 
 pub returns-in-Refused : goal.returns-in-Refused
 returns-in-Refused c =
-    view_refused _ _ _ _ _ c.view_verdict.ensures _ c.enum_told-1.given.1 _
+    view_refused _ _ _ _ _ c.in-Refused.ensures _ refl _
     (cut_none _ _ _ refl refl (search rules) refl)
 
 pub returns-in-Granted : goal.returns-in-Granted
-returns-in-Granted c = view_done _ _ _ _ _ c.view_verdict.ensures c.enum_told-in-Granted-1.given.1 _ c.page_part.ensures
+returns-in-Granted c = view_done _ _ _ _ _ c.in-Granted.ensures refl _ c.page_part.ensures

@@ -1,5 +1,5 @@
 -- `load`: refused by the image, refused for a lent length, or loaded.
-use Rattle.std.proofs.Common.{sym, ap, ◌∙◌, rules}
+use Rattle.std.proofs.Common.{not, sym, ap, ◌∙◌, rules}
 use Rattle.model.specs.Answers.{image_numbers}
 use Rattle.plainloading.proofs.Loads.{not_image, no_room, pages_fit, rights_fit, loaded}
 use borrow.Author.Rules.{rules}
@@ -8,30 +8,30 @@ use Rattle.plainloading.proofs.load.Goals as goal
 pub returns-then-not-room : goal.returns-then-not-room
 returns-then-not-room c =
     let a = c.args in
-    no_room a.file.now a.memory.now a.rights.now _ _ _ (sym (ap image_numbers c.ptl-1.given.1) ∙ c.read.ensures)
-    _ c.room.ensures c.if-not-room.true _ c.refused-then-not-room.ensures
+    no_room a.file.now a.memory.now a.rights.now _ _ _ c.in-Image.ensures
+    _ c.room.ensures (ap not c.if-not-room.true) _ c.refused-then-not-room.ensures
 
 pub fill_pages-requires : goal.fill_pages-requires
 fill_pages-requires c =
     let a = c.args in
-    pages_fit a.file.now a.memory.now a.rights.now _ _ _ (sym (ap image_numbers c.ptl-1.given.1) ∙ c.read.ensures)
-    _ c.room.ensures c.if-not-room.false _ c.pages.ensures.bytes
+    pages_fit a.file.now a.memory.now a.rights.now _ _ _ c.in-Image.ensures
+    _ c.room.ensures (ap not c.if-not-room.false) _ c.pages.ensures.bytes
 
 pub copy-requires : goal.copy-requires
 copy-requires c =
     let a = c.args in
-    rights_fit a.file.now a.memory.now a.rights.now _ _ _ (sym (ap image_numbers c.ptl-1.given.1) ∙ c.read.ensures)
-    _ c.room.ensures c.if-not-room.false _ c.rights.ensures.bytes
+    rights_fit a.file.now a.memory.now a.rights.now _ _ _ c.in-Image.ensures
+    _ c.room.ensures (ap not c.if-not-room.false) _ c.rights.ensures.bytes
 
 pub returns-in-NotImage : goal.returns-in-NotImage
 returns-in-NotImage c =
     let a = c.args in
-    not_image a.file.now a.memory.now a.rights.now _ (sym (ap image_numbers c.refusal-1.given.1) ∙ c.read.ensures)
+    not_image a.file.now a.memory.now a.rights.now _ c.in-NotImage.ensures
     _ c.refused.ensures
 
 pub returns-else-not-room : goal.returns-else-not-room
 returns-else-not-room c =
     let a = c.args in
-    loaded a.file.now a.memory.now a.rights.now _ _ _ (sym (ap image_numbers c.ptl-1.given.1) ∙ c.read.ensures)
-    _ c.room.ensures c.if-not-room.false _ c.plain-plain.ensures _ _ _ _ c.pages.ensures.bytes c.rights.ensures.bytes
+    loaded a.file.now a.memory.now a.rights.now _ _ _ c.in-Image.ensures
+    _ c.room.ensures (ap not c.if-not-room.false) _ c.plain-plain.ensures _ _ _ _ c.pages.ensures.bytes c.rights.ensures.bytes
     c.fill_pages.ensures c.copy.ensures

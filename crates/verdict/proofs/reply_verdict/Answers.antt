@@ -1,12 +1,15 @@
 -- `reply_verdict`: the test of the register.
-use mathlib.Core.Logic.{⊎_elim}
-use mathlib.Core.Path.{◌∙◌}
+use mathlib.Core.Path.{sym, ap, ◌∙◌}
 use native.Mathlib.Omega.{arith}
 use Rattle.verdict.proofs.Verdicts.{by_most, below_least}
 use borrow.Author.Rules.{rules}
 use Rattle.verdict.proofs.reply_verdict.Goals as goal
+use Rattle.verdict.proofs.reply_verdict.Goals.{then-register-ge1, else-register-ge1}
 
 pub returns : goal.returns
 returns c =
     c.unless.ensures
-    ∙ ⊎_elim (λ k. by_most _ (omega (arith, k.0.taken)) _ k.1) (λ k. below_least _ (omega (arith, k.0.left)) _ k.1) c.if-register-ge1.branch
+    ∙ elim c.if-register-ge1.branch [
+      then-register-ge1 w ↦ by_most _ (omega arith) _ w.unless-is
+      | else-register-ge1 w ↦ below_least _ (omega arith) _ w.unless-is
+    ]

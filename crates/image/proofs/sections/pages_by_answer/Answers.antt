@@ -6,7 +6,7 @@ use borrow.Author.Rules.{rules}
 use Rattle.image.proofs.sections.pages_by_answer.Goals as goal
 
 pub returns-in-Image : goal.returns-in-Image
-returns-in-Image c = rw c.answer-1.given.1 c.pages_of.ensures
+returns-in-Image c = rw c.in-Image.is c.pages_of.ensures
 
 pub returns-in-NotImage : goal.returns-in-NotImage
-returns-in-NotImage c = cut_none _ _ _ refl (sym (ap (pages_by_answer _) c.enum_told-1.given.1)) (search rules) refl
+returns-in-NotImage c = cut_none _ _ _ refl (sym (ap (pages_by_answer _) c.in-NotImage.is)) (search rules) refl

@@ -6,5 +6,4 @@ use Rattle.loading.proofs.fresh.machine.Goals as goal
 
 pub returns : goal.returns
 unfolding fresh
-returns c =
-    c.blank.ensures ∙ simp (c.meant.ensures, c.wrapping_add_u32.ensures, frames, ptl, start)
+returns c = λ l frames ptl start. c.blank.ensures ∙ simp (c.meant.ensures, c.wrapping_add_u32.ensures.value, frames, ptl, start)

@@ -7,9 +7,6 @@ use Rattle.loading.proofs.Filled.{entries_step, entries_all}
 use borrow.Author.Rules.{rules}
 use Rattle.loading.proofs.memory.put_entries.Goals as goal
 
-mul-put-word : tie.Need-overflow-mul-put-word invariant-loop decreases-loop
-mul-put-word c = omega arith
-
 pub loop-x-init : goal.loop-x-init
 unfolding invalid_entries
 loop-x-init c = (search rules, refl, refl)

@@ -4,4 +4,4 @@ use borrow.Author.Rules.{rules}
 use Rattle.plainloading.proofs.fresh.plain.Goals as goal
 
 pub returns : goal.returns
-returns c = simp c.wrapping_add_u32.ensures
+returns c = simp c.wrapping_add_u32.ensures.value

@@ -1,5 +1,5 @@
 -- `read`: the answer kept with the file has the numbers of the reader's call.
-use Rattle.std.proofs.Common.{ap, ◌∙◌, ℕ, List, Bor, rules}
+use Rattle.std.proofs.Common.{ap, ◌∙◌, ℕ, List, Bor}
 use Rattle.model.specs.Answers.{image_numbers}
 use Rattle.image.specs.Format.{answer_of}
 use Rattle.image.proofs.Accepted.{read_numbers}

@@ -1,6 +1,5 @@
 -- `put_image`: the three words of an image, or three zeros.
 use Rattle.imagewords.proofs.Numbers.{is_image, not_image}
-use borrow.Author.Rules.{rules}
 use Rattle.imagewords.proofs.put_image.Goals as goal
 
 pub returns-in-Image : goal.returns-in-Image

@@ -1,7 +1,6 @@
 -- `least_main_pages`: frames that no image has, or one page more than is meant.
-use Rattle.std.proofs.Common.{ap, not, arith, rules}
+use Rattle.std.proofs.Common.{ap, not, arith}
 use Rattle.loading.proofs.Least.{no_image, few, least}
-use borrow.Author.Rules.{rules}
 use Rattle.loading.proofs.least_main_pages.Goals as goal
 
 pub returns-then-not-frames_right : goal.returns-then-not-frames_right

@@ -1,8 +1,6 @@
 -- `load`: refused by the image, refused for its room, or loaded.
-use Rattle.std.proofs.Common.{not, sym, ap, ◌∙◌, rules}
-use Rattle.model.specs.Answers.{image_numbers}
+use Rattle.std.proofs.Common.{not, ap}
 use Rattle.loading.proofs.Loads.{not_image, no_room, few_pages, table_fits, pages_fit, loaded}
-use borrow.Author.Rules.{rules}
 use Rattle.loading.proofs.load.Goals as goal
 
 pub returns-then-not-room : goal.returns-then-not-room

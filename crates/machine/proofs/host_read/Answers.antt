@@ -4,7 +4,6 @@ use Rattle.model.specs.State.{state}
 use Rattle.machine.proofs.Outcomes.{read_refused, read_done}
 use Rattle.host.proofs.Leans.{host_leans}
 use Rattle.machine.proofs.Length.{held_length}
-use borrow.Author.Rules.{rules}
 use Rattle.machine.proofs.host_read.Goals as goal
 
 pub read_bytes-requires : goal.read_bytes-requires

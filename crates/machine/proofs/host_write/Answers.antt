@@ -4,7 +4,6 @@ use Rattle.model.specs.State.{state}
 use Rattle.machine.proofs.Outcomes.{write_refused, write_done}
 use Rattle.host.proofs.Leans.{host_leans, host_most}
 use Rattle.machine.proofs.Length.{held_length}
-use borrow.Author.Rules.{rules}
 use Rattle.machine.proofs.host_write.Goals as goal
 
 pub marks_for-after-requires : goal.marks_for-after-requires

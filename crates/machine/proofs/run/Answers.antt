@@ -1,8 +1,7 @@
 -- `run`: refused, or the definition's run.
-use mathlib.Core.Path.{refl, sym, ◌∙◌}
+use mathlib.Core.Path.{refl, sym}
 use Rattle.model.specs.State.{state}
 use Rattle.machine.proofs.Outcomes.{run_refused}
-use borrow.Author.Rules.{rules}
 use Rattle.machine.proofs.run.Goals as goal
 
 pub run_granted-requires : goal.run_granted-requires

@@ -5,7 +5,6 @@ use Rattle.model.specs.State.{state}
 use Rattle.host.proofs.Leans.{run_leans}
 use Rattle.machine.proofs.Outcomes.{ran, run_done}
 use Rattle.machine.proofs.Length.{held_length}
-use borrow.Author.Rules.{rules}
 use Rattle.machine.proofs.run_granted.Goals as goal
 
 pub go-e-requires : goal.go-e-requires

@@ -1,6 +1,5 @@
 -- `view_answer`: the verdict's number.
 use Rattle.machine.proofs.Outcomes.{view_number}
-use borrow.Author.Rules.{rules}
 use Rattle.machine.proofs.view_answer.Goals as goal
 
 pub returns : goal.returns

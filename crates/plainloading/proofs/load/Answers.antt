@@ -1,8 +1,6 @@
 -- `load`: refused by the image, refused for a lent length, or loaded.
-use Rattle.std.proofs.Common.{not, sym, ap, ◌∙◌, rules}
-use Rattle.model.specs.Answers.{image_numbers}
+use Rattle.std.proofs.Common.{not, ap}
 use Rattle.plainloading.proofs.Loads.{not_image, no_room, pages_fit, rights_fit, loaded}
-use borrow.Author.Rules.{rules}
 use Rattle.plainloading.proofs.load.Goals as goal
 
 pub returns-then-not-room : goal.returns-then-not-room

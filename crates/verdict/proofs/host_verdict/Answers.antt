@@ -2,7 +2,6 @@
 use mathlib.Core.Path.{refl, ◌∙◌}
 use Rattle.model.specs.Calls.{host_verdict}
 use Rattle.verdict.proofs.Verdicts.{of_whole, still_refused, onward, passed_fit}
-use borrow.Author.Rules.{rules}
 use Rattle.verdict.proofs.host_verdict.Goals as goal
 
 pub transfer_verdict-requires : goal.transfer_verdict-requires

@@ -3,7 +3,6 @@ use mathlib.Core.Bool.{not}
 use mathlib.Core.Path.{ap, ◌∙◌}
 use Rattle.sound.specs.Lean.{whole}
 use Rattle.verdict.proofs.Verdicts.{bound, fitted, by_sound}
-use borrow.Author.Rules.{rules}
 use Rattle.verdict.proofs.machine_verdict.Goals as goal
 
 pub returns-then-not-fits : goal.returns-then-not-fits

@@ -4,7 +4,6 @@ use Rattle.model.specs.Calls.{unless, view_verdict}
 use Rattle.model.specs.declared.Refusal.TheVariants.{Rights}
 use Rattle.model.specs.declared.Verdict.TheVariants.{Granted}
 use Rattle.verdict.proofs.Verdicts.{of_whole, still_refused, onward, passed_fit}
-use borrow.Author.Rules.{rules}
 use Rattle.verdict.proofs.view_verdict.Goals as goal
 
 pub viewable-requires : goal.viewable-requires

@@ -1,6 +1,5 @@
 -- `at_hand::rights`: the section that the answer says, which is the reader's where the answer is the one for the file.
 use Rattle.image.proofs.Accepted.{hand_rights}
-use borrow.Author.Rules.{rules}
 use Rattle.image.proofs.at_hand.rights.Goals as goal
 
 pub returns : goal.returns

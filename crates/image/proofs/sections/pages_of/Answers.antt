@@ -6,7 +6,6 @@ use native.Mathlib.Omega.{arith}
 use denote.Ref.{Bor}
 use Rattle.model.specs.Parts.{Part, PartOf}
 use Rattle.image.specs.Sections.{section}
-use borrow.Author.Rules.{rules}
 use Rattle.image.proofs.sections.pages_of.Goals as goal
 
 -- the same part, said otherwise

@@ -1,6 +1,5 @@
 -- `trailer::numbers`: six words.
 use Rattle.image.proofs.Parts.{six_numbers}
-use borrow.Author.Rules.{rules}
 use Rattle.image.proofs.trailer.numbers.Goals as goal
 
 pub returns : goal.returns

@@ -1,7 +1,6 @@
 -- `fresh::machine`: the fresh record, of every file with these numbers.
-use Rattle.std.proofs.Common.{◌∙◌, rules}
+use Rattle.std.proofs.Common.{◌∙◌}
 use Rattle.model.specs.Image.{fresh}
-use borrow.Author.Rules.{rules}
 use Rattle.loading.proofs.fresh.machine.Goals as goal
 
 pub returns : goal.returns

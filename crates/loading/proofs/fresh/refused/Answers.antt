@@ -1,7 +1,6 @@
 -- `fresh::refused`: the record of zeros.
-use Rattle.std.proofs.Common.{ap, rules}
+use Rattle.std.proofs.Common.{ap}
 use Rattle.model.specs.declared.Verdict.TheVariants.{Refused}
-use borrow.Author.Rules.{rules}
 use Rattle.loading.proofs.fresh.refused.Goals as goal
 
 pub returns : goal.returns

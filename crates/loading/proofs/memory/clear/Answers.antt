@@ -1,5 +1,5 @@
 -- `memory::clear`: the first i bytes are 0.
-use Rattle.std.proofs.Common.{◌≡◌, ◌-◌, ◌≤◌, ◌++◌, length, drop, set, replicate, refl, ap, ◌∙◌, arith, length-set, rules}
+use Rattle.std.proofs.Common.{set, refl, ap, ◌∙◌, arith, length-set, rules}
 use borrow.Author.Fill.{fill_none, fill_more}
 use Rattle.loading.proofs.Filled.{all_zero}
 use borrow.Author.Rules.{rules}

@@ -1,7 +1,5 @@
 -- `memory::clear`: the first i bytes are 0.
-use Rattle.std.proofs.Common.{◌≡◌, ◌-◌, ◌≤◌, ◌++◌, length, drop, set, replicate, refl, ap, ◌∙◌, arith, length-set, rules}
-use borrow.Author.Fill.{fill_none, fill_more}
-use Rattle.loading.proofs.Filled.{all_zero}
+use Rattle.std.proofs.Common.{◌≡◌, ◌-◌, ◌≤◌, ◌++◌, length, drop, replicate}
 use Rattle.loading.proofs.memory.clear.Given as goal
 
 abbrev pub invariant-loop-i : goal.invariant-loop-i

@@ -1,6 +1,5 @@
 -- `memory::entry`: r and w as the definition has them.
-use Rattle.std.proofs.Common.{arith, rules}
-use borrow.Author.Rules.{rules}
+use Rattle.std.proofs.Common.{arith}
 use Rattle.loading.proofs.memory.entry.Goals as goal
 
 pub returns : goal.returns

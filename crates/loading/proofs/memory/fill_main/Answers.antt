@@ -1,8 +1,7 @@
 -- `memory::fill_main`: zeros, then the entries over them.
 use Rattle.loading.proofs.Filled.{zeros_behind}
 use Rattle.model.specs.Image.{invalid_entries}
-use Rattle.std.proofs.Common.{◌*◌, ◌++◌, length, drop, ap, ◌∙◌, rules}
-use borrow.Author.Rules.{rules}
+use Rattle.std.proofs.Common.{◌*◌, ◌++◌, length, drop, ap, ◌∙◌}
 use Rattle.loading.proofs.memory.fill_main.Goals as goal
 
 pub returns : goal.returns

@@ -1,5 +1,5 @@
 -- `memory::fill_pages`: the first x pages have come.
-use Rattle.std.proofs.Common.{◌≡◌, ◌-◌, ◌*◌, ◌≤◌, ◌++◌, length, take, drop, refl, ap, ◌∙◌, arith, rules}
+use Rattle.std.proofs.Common.{◌*◌, length, refl, ap, ◌∙◌, arith, rules}
 use Rattle.model.specs.Bytes.{page, with_page}
 use Rattle.laws.proofs.Bytes.{length-page, length-with_page}
 use Rattle.words.proofs.Copies.{all_come}

@@ -1,9 +1,5 @@
 -- `memory::fill_pages`: the first x pages have come.
-use Rattle.std.proofs.Common.{◌≡◌, ◌-◌, ◌*◌, ◌≤◌, ◌++◌, length, take, drop, refl, ap, ◌∙◌, arith, rules}
-use Rattle.model.specs.Bytes.{page, with_page}
-use Rattle.laws.proofs.Bytes.{length-page, length-with_page}
-use Rattle.words.proofs.Copies.{all_come}
-use Rattle.loading.proofs.Filled.{pages_step}
+use Rattle.std.proofs.Common.{◌≡◌, ◌-◌, ◌*◌, ◌≤◌, ◌++◌, length, take, drop}
 use Rattle.loading.proofs.memory.fill_pages.Given as goal
 
 abbrev pub invariant-loop-x : goal.invariant-loop-x

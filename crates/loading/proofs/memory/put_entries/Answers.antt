@@ -1,5 +1,5 @@
 -- `memory::put_entries`: the entries of the first x pages have come.
-use Rattle.std.proofs.Common.{◌≡◌, ◌-◌, ◌*◌, ◌≤◌, ◌++◌, length, take, drop, refl, ap, ◌∙◌, arith, rules}
+use Rattle.std.proofs.Common.{◌*◌, length, refl, ap, ◌∙◌, arith, rules}
 use Rattle.model.specs.Bytes.{store}
 use Rattle.model.specs.Image.{invalid_entry, invalid_entries}
 use Rattle.laws.proofs.Bytes.{length-store}

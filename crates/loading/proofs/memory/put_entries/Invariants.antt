@@ -1,9 +1,6 @@
 -- `memory::put_entries`: the entries of the first x pages have come.
-use Rattle.std.proofs.Common.{◌≡◌, ◌-◌, ◌*◌, ◌≤◌, ◌++◌, length, take, drop, refl, ap, ◌∙◌, arith, rules}
-use Rattle.model.specs.Bytes.{store}
-use Rattle.model.specs.Image.{invalid_entry, invalid_entries}
-use Rattle.laws.proofs.Bytes.{length-store}
-use Rattle.loading.proofs.Filled.{entries_step, entries_all}
+use Rattle.std.proofs.Common.{◌≡◌, ◌-◌, ◌*◌, ◌≤◌, ◌++◌, length, take, drop}
+use Rattle.model.specs.Image.{invalid_entries}
 use Rattle.loading.proofs.memory.put_entries.Given as goal
 
 abbrev pub invariant-loop-x : goal.invariant-loop-x

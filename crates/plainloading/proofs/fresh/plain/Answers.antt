@@ -1,6 +1,4 @@
 -- `fresh::plain`: the fresh record.
-use Rattle.std.proofs.Common.{rules}
-use borrow.Author.Rules.{rules}
 use Rattle.plainloading.proofs.fresh.plain.Goals as goal
 
 pub returns : goal.returns

@@ -1,5 +1,5 @@
 -- The signed shift: its answers are those that it gave before, and bit 31 fills the bits that come in at the top.
-use mathlib.Core.Path.{◌≡◌, refl, sym, ap, ◌∙◌}
+use mathlib.Core.Path.{◌≡◌, sym, ap, ◌∙◌}
 use Prim.Native.Nat.{ℕ, suc, ◌+◌, ◌-◌, ◌*◌, ◌/◌, ◌%◌, ◌^◌, ◌≤◌, ◌<◌}
 use native.Mathlib.Nat.{add_comm, mul_assoc, div-eq_of_lt, zero-div, zero-mul, mul-zero, one-mul, mul-one, lt_of_lt_of_le}
 use native.Mathlib.Decide.{dec_lt}

@@ -3,7 +3,6 @@ use mathlib.Core.Path.{ap, ◌∙◌}
 use Rattle.laws.specs.Over.{over}
 use Rattle.record.specs.Words.{held_at, gpr_at, dpc_at}
 use Rattle.record.proofs.Parts.{laid}
-use borrow.Author.Rules.{rules}
 use Rattle.record.proofs.lay.Goals as goal
 
 pub returns : goal.returns

@@ -1,6 +1,5 @@
 -- `machine_of`: each word in its place.
 use Rattle.record.specs.Words.{machine_of}
-use borrow.Author.Rules.{rules}
 use Rattle.record.proofs.machine_of.Goals as goal
 
 pub returns : goal.returns

@@ -1,13 +1,10 @@
 -- `numbers_of`: after i turns the first i have come.
 use mathlib.Core.Path.{sym}
-use Prim.Native.Nat.{◌≤◌, ◌-◌}
 use native.Mathlib.Omega.{arith}
 use lib.ListN.{length-map}
 use Rattle.model.specs.declared.VirtualPage.{VirtualPage}
-use Rattle.words.proofs.Copies.{Copied, copied_none, copied_next, copied_all}
-use Rattle.record.specs.Words.{numbers_of}
+use Rattle.words.proofs.Copies.{copied_none, copied_next, copied_all}
 use Rattle.record.proofs.Parts.{number_at}
-use borrow.Author.Rules.{rules}
 use Rattle.record.proofs.numbers_of.Goals as goal
 
 pub loop-i-init : goal.loop-i-init

@@ -1,13 +1,10 @@
 -- `pages_of`: after i turns the first i have come.
 use mathlib.Core.Path.{sym}
-use Prim.Native.Nat.{◌≤◌, ◌-◌}
 use native.Mathlib.Omega.{arith}
 use lib.ListN.{length-map}
 use Rattle.model.specs.Pages.{virtual}
-use Rattle.words.proofs.Copies.{Copied, copied_none, copied_next, copied_all}
-use Rattle.record.specs.Words.{pages_of}
+use Rattle.words.proofs.Copies.{copied_none, copied_next, copied_all}
 use Rattle.record.proofs.Parts.{page_at}
-use borrow.Author.Rules.{rules}
 use Rattle.record.proofs.pages_of.Goals as goal
 
 pub loop-i-init : goal.loop-i-init

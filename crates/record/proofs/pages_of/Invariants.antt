@@ -1,12 +1,7 @@
 -- `pages_of`: after i turns the first i have come.
-use mathlib.Core.Path.{sym}
 use Prim.Native.Nat.{◌≤◌, ◌-◌}
-use native.Mathlib.Omega.{arith}
-use lib.ListN.{length-map}
-use Rattle.model.specs.Pages.{virtual}
-use Rattle.words.proofs.Copies.{Copied, copied_none, copied_next, copied_all}
+use Rattle.words.proofs.Copies.{Copied}
 use Rattle.record.specs.Words.{pages_of}
-use Rattle.record.proofs.Parts.{page_at}
 use Rattle.record.proofs.pages_of.Given as goal
 
 abbrev pub invariant-loop-i : goal.invariant-loop-i

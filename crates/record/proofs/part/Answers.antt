@@ -1,11 +1,8 @@
 -- `part`: after i turns the first i words have come.
 use mathlib.Core.Path.{sym}
-use Prim.Native.Nat.{◌≤◌, ◌-◌}
 use native.Mathlib.Omega.{arith}
-use Rattle.words.proofs.Copies.{Copied, copied_none, copied_next, copied_all}
-use Rattle.record.specs.Words as words
+use Rattle.words.proofs.Copies.{copied_none, copied_next, copied_all}
 use Rattle.record.proofs.Parts.{length_part, part_at}
-use borrow.Author.Rules.{rules}
 use Rattle.record.proofs.part.Goals as goal
 
 pub loop-i-init : goal.loop-i-init

@@ -1,10 +1,7 @@
 -- `part`: after i turns the first i words have come.
-use mathlib.Core.Path.{sym}
 use Prim.Native.Nat.{◌≤◌, ◌-◌}
-use native.Mathlib.Omega.{arith}
-use Rattle.words.proofs.Copies.{Copied, copied_none, copied_next, copied_all}
+use Rattle.words.proofs.Copies.{Copied}
 use Rattle.record.specs.Words as words
-use Rattle.record.proofs.Parts.{length_part, part_at}
 use Rattle.record.proofs.part.Given as goal
 
 abbrev pub invariant-loop-i : goal.invariant-loop-i

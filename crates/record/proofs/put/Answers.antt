@@ -1,11 +1,10 @@
 -- `put`: after i turns the first i words are written.
-use mathlib.Core.Path.{◌≡◌, refl, ap, ◌∙◌}
-use Prim.Native.Nat.{◌+◌, ◌≤◌, ◌-◌}
+use mathlib.Core.Path.{refl, ap, ◌∙◌}
+use Prim.Native.Nat.{◌+◌}
 use native.Mathlib.Omega.{arith}
-use lib.ListN.{length, length-set, get_or, set}
-use lib.Seq.{paste, paste-zero}
+use lib.ListN.{length-set, get_or, set}
+use lib.Seq.{paste-zero}
 use Rattle.laws.proofs.Over.{over_more, over_done}
-use borrow.Author.Rules.{rules}
 use Rattle.record.proofs.put.Goals as goal
 
 pub loop-i-init : goal.loop-i-init

@@ -1,10 +1,8 @@
 -- `put`: after i turns the first i words are written.
-use mathlib.Core.Path.{◌≡◌, refl, ap, ◌∙◌}
-use Prim.Native.Nat.{◌+◌, ◌≤◌, ◌-◌}
-use native.Mathlib.Omega.{arith}
-use lib.ListN.{length, length-set, get_or, set}
-use lib.Seq.{paste, paste-zero}
-use Rattle.laws.proofs.Over.{over_more, over_done}
+use mathlib.Core.Path.{◌≡◌}
+use Prim.Native.Nat.{◌≤◌, ◌-◌}
+use lib.ListN.{length}
+use lib.Seq.{paste}
 use Rattle.record.proofs.put.Given as goal
 
 abbrev pub invariant-loop-i : goal.invariant-loop-i

@@ -1,6 +1,5 @@
 -- `put_machine`: the parts are those of its words.
 use Rattle.record.specs.Words.{words_of}
-use borrow.Author.Rules.{rules}
 use Rattle.record.proofs.put_machine.Goals as goal
 
 pub returns : goal.returns

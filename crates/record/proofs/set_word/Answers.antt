@@ -2,7 +2,6 @@
 use mathlib.Core.Path.{ap, ◌∙◌}
 use lib.ListN.{set}
 use Rattle.record.specs.Words.{machine_of, with_word}
-use borrow.Author.Rules.{rules}
 use Rattle.record.proofs.set_word.Goals as goal
 
 pub returns : goal.returns

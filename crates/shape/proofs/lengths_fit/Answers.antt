@@ -1,7 +1,6 @@
 -- `lengths_fit`: a length that is another, or both as they must be.
 use native.Mathlib.Omega.{arith}
 use Rattle.shape.proofs.Facts.{lengths, no_lengths}
-use borrow.Author.Rules.{rules}
 use Rattle.shape.proofs.lengths_fit.Goals as goal
 
 pub returns-then-main-s : goal.returns-then-main-s

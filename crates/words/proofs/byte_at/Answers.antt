@@ -1,7 +1,6 @@
 -- `byte_at`: one byte.
 use native.Mathlib.Omega.{arith}
 use Rattle.model.specs.Bytes.{number}
-use borrow.Author.Rules.{rules}
 use Rattle.words.proofs.byte_at.Goals as goal
 
 pub returns : goal.returns

@@ -1,10 +1,7 @@
 -- `copy`: after i turns the first i bytes have come.
 use mathlib.Core.Path.{refl}
-use Prim.Native.Nat.{◌≤◌, ◌-◌}
 use native.Mathlib.Omega.{arith}
-use lib.ListN.{length}
-use Rattle.words.proofs.Copies.{Copied, copied_none, copied_next, copied_all}
-use borrow.Author.Rules.{rules}
+use Rattle.words.proofs.Copies.{copied_none, copied_next, copied_all}
 use Rattle.words.proofs.copy.Goals as goal
 
 pub loop-i-init : goal.loop-i-init

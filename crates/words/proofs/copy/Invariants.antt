@@ -1,9 +1,7 @@
 -- `copy`: after i turns the first i bytes have come.
-use mathlib.Core.Path.{refl}
 use Prim.Native.Nat.{◌≤◌, ◌-◌}
-use native.Mathlib.Omega.{arith}
 use lib.ListN.{length}
-use Rattle.words.proofs.Copies.{Copied, copied_none, copied_next, copied_all}
+use Rattle.words.proofs.Copies.{Copied}
 use Rattle.words.proofs.copy.Given as goal
 
 abbrev pub invariant-loop-i : goal.invariant-loop-i

@@ -4,7 +4,6 @@ use Prim.Native.Nat.{◌+◌, ◌-◌, ◌*◌}
 use borrow.Rule.Slice.PartMut.{put_mid}
 use Rattle.model.specs.Bytes.{page}
 use Rattle.words.proofs.Copies.{part_page, part_with_page}
-use borrow.Author.Rules.{rules}
 use Rattle.words.proofs.copy_page.Goals as goal
 
 pub returns : goal.returns

@@ -1,7 +1,6 @@
 -- `half_at`: two bytes.
 use native.Mathlib.Omega.{arith}
 use Rattle.laws.proofs.Bytes.{number_two}
-use borrow.Author.Rules.{rules}
 use Rattle.words.proofs.half_at.Goals as goal
 
 pub returns : goal.returns

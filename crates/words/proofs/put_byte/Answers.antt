@@ -1,7 +1,6 @@
 -- `put_byte`: one store.
 use mathlib.Core.Path.{refl}
 use Rattle.model.specs.Bytes.{store}
-use borrow.Author.Rules.{rules}
 use Rattle.words.proofs.put_byte.Goals as goal
 
 pub returns : goal.returns

@@ -3,7 +3,6 @@ use mathlib.Core.Path.{sym}
 use native.Mathlib.Omega.{arith}
 use lib.ListN.{length-set}
 use Rattle.laws.proofs.Bytes.{store_two}
-use borrow.Author.Rules.{rules}
 use Rattle.words.proofs.put_half.Goals as goal
 
 pub bounds-m-at-2 : goal.bounds-m-at-2

@@ -1,10 +1,7 @@
 -- `same`: after i turns the first i bytes are compared.
 use mathlib.Core.Path.{refl}
-use Prim.Native.Nat.{◌≤◌, ◌-◌}
 use native.Mathlib.Omega.{arith}
-use lib.ListN.{length}
-use Rattle.words.proofs.Compared.{So, same_next, same_end}
-use borrow.Author.Rules.{rules}
+use Rattle.words.proofs.Compared.{same_next, same_end}
 use Rattle.words.proofs.same.Goals as goal
 
 pub loop-i-init : goal.loop-i-init

@@ -1,9 +1,7 @@
 -- `same`: after i turns the first i bytes are compared.
-use mathlib.Core.Path.{refl}
 use Prim.Native.Nat.{◌≤◌, ◌-◌}
-use native.Mathlib.Omega.{arith}
 use lib.ListN.{length}
-use Rattle.words.proofs.Compared.{So, same_next, same_end}
+use Rattle.words.proofs.Compared.{So}
 use Rattle.words.proofs.same.Given as goal
 
 abbrev pub invariant-loop-i : goal.invariant-loop-i

@@ -2,7 +2,6 @@
 use mathlib.Core.Path.{ap₂, ◌∙◌}
 use Rattle.model.specs.Bytes.{same}
 use Rattle.words.proofs.Copies.{part_page}
-use borrow.Author.Rules.{rules}
 use Rattle.words.proofs.same_page.Goals as goal
 
 pub returns : goal.returns

@@ -1,7 +1,6 @@
 -- `word_at`: four bytes.
 use native.Mathlib.Omega.{arith}
 use Rattle.laws.proofs.Bytes.{number_four}
-use borrow.Author.Rules.{rules}
 use Rattle.words.proofs.word_at.Goals as goal
 
 pub returns : goal.returns

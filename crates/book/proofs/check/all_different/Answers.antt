@@ -1,11 +1,6 @@
 -- `check::all_different`: the first j pages are all different, and the first i of them differ from page j.
 use mathlib.Core.Path.{◌≡◌, refl, ◌∙◌}
-use mathlib.Core.Bool.{true}
-use Prim.Native.Nat.{◌≤◌, ◌-◌}
 use native.Mathlib.Omega.{arith}
-use Rattle.model.specs.Choice.{every_below}
-use Rattle.model.specs.Sound.{differs_before}
-use Rattle.book.specs.Numbers.{book_of}
 use Rattle.book.proofs.Loops.{none_yet, one_more, all_passed}
 use Rattle.book.proofs.Ways.{pair_differs, pair_equal}
 use borrow.Author.Rules.{rules}

@@ -1,9 +1,4 @@
 -- `check::rest_zero`: whether the pages from b to i are 0.
-use mathlib.Core.Path.{◌≡◌}
-use Prim.Native.Nat.{◌≤◌, ◌-◌}
-use Rattle.model.specs.Choice.{every_below}
-use Rattle.model.specs.Sound.{zero_from}
-use Rattle.book.specs.Numbers.{book_of}
 use Rattle.book.proofs.Ways.{zero_before, zero_next, zero_all}
 use borrow.Author.Rules.{rules}
 use Rattle.book.proofs.check.rest_zero.Goals as goal

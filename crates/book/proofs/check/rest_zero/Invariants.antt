@@ -4,7 +4,6 @@ use Prim.Native.Nat.{◌≤◌, ◌-◌}
 use Rattle.model.specs.Choice.{every_below}
 use Rattle.model.specs.Sound.{zero_from}
 use Rattle.book.specs.Numbers.{book_of}
-use Rattle.book.proofs.Ways.{zero_before, zero_next, zero_all}
 use Rattle.book.proofs.check.rest_zero.Given as goal
 
 abbrev pub invariant-loop-i : goal.invariant-loop-i

@@ -7,4 +7,4 @@ use Rattle.alu.proofs.sext26.Goals as goal
 pub returns : goal.returns
 returns c =
     extended 33554432 c.args.x c.wrapping_sub_u32.result (omega arith) (search rules) (omega arith)
-    (c.wrapping_sub_u32.ensures ∙ ap (λ (s : ℕ). s % 67108864) c.wrapping_add_u32.ensures)
+    (c.wrapping_sub_u32.ensures.value ∙ ap (λ (s : ℕ). s % 67108864) c.wrapping_add_u32.ensures.value)

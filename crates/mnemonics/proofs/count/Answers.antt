@@ -4,8 +4,8 @@ use Rattle.mnemonics.proofs.Tabled.{form_at, count_at}
 use borrow.Author.Rules.{rules}
 use Rattle.mnemonics.proofs.count.Goals as goal
 
-mul-result : tie.Need-overflow-mul-result
-mul-result c = let a = c.before.args in omega (arith, form_at a.t.now (search rules) a.row (search rules))
+pub offset_bounds-t-form : goal.offset_bounds-t-form
+offset_bounds-t-form c = let a = c.args in omega (arith, form_at a.t.now (search rules) a.row (search rules))
 
 pub overflow_add-result : goal.overflow_add-result
 overflow_add-result c = let a = c.args in omega (arith, form_at a.t.now (search rules) a.row (search rules))

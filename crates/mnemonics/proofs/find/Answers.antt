@@ -17,8 +17,8 @@ loop-i-init c = (omega arith, omega arith)
 
 pub returns-then-t-from : goal.returns-then-t-from
 returns-then-t-from c =
-    let a = c.before.before.before.before.args in
-    let v = c.before.before.before.loop in
+    let a = c.args in
+    let v = c.loop-i in
     let n = length_part a.t.now a.from (search rules) in
     let e = part_at a.t.now a.from v.i (search rules) in
     omega (arith, v.invariant.1, first_here (part a.t.now a.from) a.key v.i (omega (arith, n)) (omega (arith, e)))

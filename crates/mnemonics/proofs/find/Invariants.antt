@@ -9,7 +9,7 @@ use Rattle.mnemonics.proofs.Tabled.{first_here, first_further, first_nowhere, le
 use Rattle.mnemonics.proofs.find.Given as goal
 
 abbrev pub invariant-loop-i : goal.invariant-loop-i
-invariant-loop-i l = (l.i ≤ 49) × (first_in (part l.t l.from) l.key ≡ l.i + first_in (drop l.i (part l.t l.from)) l.key)
+invariant-loop-i l = (l.i ≤ 49) × (first_in (take 49 (drop l.from l.t)) l.key ≡ l.i + first_in (drop l.i (take 49 (drop l.from l.t))) l.key)
 
 abbrev pub decreases-loop-i : goal.decreases-loop-i
 decreases-loop-i l = 49 - l.i

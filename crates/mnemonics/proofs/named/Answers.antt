@@ -12,6 +12,5 @@ returns-then-name-gt4 c = no_name _ (search rules)
 pub returns : goal.returns
 returns c =
     let a = c.args in
-    let known = c.shared_slice_known-1 in
     c.find.ensures
-    ∙ found_name a.t.now (search rules) a.name.now (λ i. omega (arith, known.given i)) _ c.pack.ensures
+    ∙ found_name a.t.now (search rules) a.name.now (λ i. omega (arith, c.type_inv.name i)) _ c.pack.ensures

@@ -20,7 +20,7 @@ pub bounds-name-i : goal.bounds-name-i
 bounds-name-i c = search rules
 
 pub overflow_cast-v : goal.overflow_cast-v
-overflow_cast-v c = omega (arith, c.shared_slice_known-1.given (c.loop-i.i - 1))
+overflow_cast-v c = omega arith
 
 pub overflow_mul-v : goal.overflow_mul-v
 overflow_mul-v c =
@@ -29,7 +29,7 @@ overflow_mul-v c =
       arith,
       v.invariant.1,
       packed_few c.args.name.now v.i (search rules) (search rules)
-          (λ k. omega (arith, c.shared_slice_known-1.given k)) (search rules),
+          (λ k. omega (arith, c.type_inv.name k)) (search rules),
     )
 
 pub overflow_add-v : goal.overflow_add-v
@@ -39,8 +39,7 @@ overflow_add-v c =
       arith,
       v.invariant.1,
       packed_few c.args.name.now v.i (search rules) (search rules)
-          (λ k. omega (arith, c.shared_slice_known-1.given k)) (search rules),
-      c.shared_slice_known-1.given (v.i - 1),
+          (λ k. omega (arith, c.type_inv.name k)) (search rules),
     )
 
 pub loop-i-smaller : goal.loop-i-smaller

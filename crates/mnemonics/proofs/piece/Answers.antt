@@ -4,11 +4,11 @@ use Rattle.mnemonics.proofs.Tabled.{place_at, mark_at, field_at}
 use borrow.Author.Rules.{rules}
 use Rattle.mnemonics.proofs.piece.Goals as goal
 
-mul-code-2 : tie.Need-overflow-mul-code-2
-mul-code-2 c = let a = c.before.args in omega (arith, place_at a.t.now (search rules) a.row (search rules) a.k (search rules))
+pub offset_bounds-t-form : goal.offset_bounds-t-form
+offset_bounds-t-form c = let a = c.args in omega (arith, place_at a.t.now (search rules) a.row (search rules) a.k (search rules))
 
-cast-t17 : tie.Need-overflow-cast-t17
-cast-t17 c = let a = c.before.before.before.args in omega (arith, (mark_at a.t.now (search rules) a.row (search rules) a.k (search rules) (search rules)).2)
+pub overflow_cast-result : goal.overflow_cast-result
+overflow_cast-result c = let a = c.args in omega (arith, (mark_at a.t.now (search rules) a.row (search rules) a.k (search rules) (search rules)).2)
 
 pub overflow_mul-code : goal.overflow_mul-code
 overflow_mul-code c = let a = c.args in omega (arith, place_at a.t.now (search rules) a.row (search rules) a.k (search rules))

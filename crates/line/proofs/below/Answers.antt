@@ -1,7 +1,6 @@
 -- `below`: half of the field's numbers, or none.
 use mathlib.Core.Path.{refl}
 use native.Mathlib.Omega.{arith}
-use borrow.Author.Rules.{rules}
 use Rattle.line.proofs.below.Goals as goal
 
 pub returns-then-signed : goal.returns-then-signed

@@ -1,12 +1,10 @@
 -- `name_end`: the bytes before i are the name's.
-use mathlib.Core.Path.{◌≡◌, refl, sym, ap, ◌∙◌}
+use mathlib.Core.Path.{refl, sym, ap, ◌∙◌}
 use mathlib.Core.Bool.{not}
-use Prim.Native.Nat.{◌+◌, ◌-◌, ◌≤◌}
 use native.Mathlib.Omega.{arith}
 use lib.ListN.{length}
 use Rattle.text.proofs.Fronts.{front_more, front_stop}
 use Rattle.notation.specs.Sums.{is_blank}
-use Rattle.notation.specs.Line.{name_at}
 use Rattle.line.proofs.Names.{no_name}
 use borrow.Author.Rules.{rules}
 use Rattle.line.proofs.name_end.Goals as goal
@@ -16,9 +14,9 @@ loop-i-init c = (omega arith, omega arith, refl)
 
 pub returns-then-blank : goal.returns-then-blank
 returns-then-blank c =
-    let v = c.before.before.before.before.loop in
-    let l = c.before.before.before.before.before.before.args.s.now in
-    let e = front_stop (λ x. not (is_blank x)) l v.i (ap not (sym c.blank.ensures ∙ c.if1.true)) in
+    let v = c.loop-i in
+    let l = c.args.s.now in
+    let e = front_stop (λ x. not (is_blank x)) l v.i (ap not (sym c.blank.ensures ∙ c.if-blank.true)) in
     (omega (arith, ap length e, v.invariant.2), omega arith, omega arith)
 
 pub loop-i-preserved : goal.loop-i-preserved

@@ -3,7 +3,6 @@ use mathlib.Core.Path.{◌∙◌}
 use native.Mathlib.Omega.{arith}
 use Rattle.grammar.proofs.Places.{skip_inside}
 use Rattle.line.proofs.Names.{begins_number, begins_name}
-use borrow.Author.Rules.{rules}
 use Rattle.line.proofs.read.Goals as goal
 
 pub returns-then-digit_at : goal.returns-then-digit_at

@@ -1,8 +1,8 @@
 -- `read_pieces`: k pieces are read.
-use mathlib.Core.Path.{◌≡◌, sym, ap, ◌∙◌}
-use Prim.Native.Nat.{◌+◌, ◌-◌, ◌*◌, ◌≤◌, ◌<◌}
+use mathlib.Core.Path.{refl, sym, ap, ◌∙◌}
+use Prim.Native.Nat.{◌<◌}
 use native.Mathlib.Omega.{arith}
-use lib.ListN.{length, drop}
+use lib.ListN.{length}
 use Rattle.notation.specs.Line.{read_pieces}
 use Rattle.mnemonics.specs.Rows.{row_at}
 use Rattle.line.proofs.Fields.{piece_small}
@@ -18,21 +18,20 @@ loop-k-init c =
 pub returns-in_default : goal.returns-in_default
 returns-in_default c =
     let v = c.loop-k in
-    let a = turn.before.before.before.before.args in
-    let within : v.k < length (row_at a.row).pieces = omega (arith, turn.before.before.count.ensures.0) in
-    stops a.s.now v.w v.n (row_at a.row).pieces v.k within _ c.piece.ensures.0 _ c.read-piece.ensures
-    c.enum_told.given.1 v.invariant.2
+    let a = c.args in
+    let within : v.k < length (row_at a.row).pieces = omega (arith, c.count-count.ensures.0) in
+    stops a.s.now v.w v.n (row_at a.row).pieces v.k within _ c.piece.ensures.0 _ c.read_piece-p.ensures
+    c.in_default.is v.invariant.2
 
 pub loop-k-preserved : goal.loop-k-preserved
 loop-k-preserved c =
     let v = c.loop-k in
     let a = c.args in
-    let e = c.read_piece-p.ensures in
-    let value = c.p-1.given.1 in
+    let e = c.in-Value.ensures in
     let within : v.k < length (row_at a.row).pieces = omega (arith, c.count-count.ensures.0) in (
       search rules,
-      omega (arith, piece_small a.s.now _ v.w v.n _ _ _ c.piece.ensures.1 e value, v.invariant.1),
-      steps a.s.now v.w v.n (row_at a.row).pieces v.k within _ c.piece.ensures.0 _ e value v.invariant.2,
+      omega (arith, piece_small a.s.now _ v.w v.n _ _ _ c.piece.ensures.1 e refl, v.invariant.1),
+      steps a.s.now v.w v.n (row_at a.row).pieces v.k within _ c.piece.ensures.0 _ e refl v.invariant.2,
     )
 
 pub returns : goal.returns

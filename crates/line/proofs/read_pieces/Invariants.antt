@@ -1,12 +1,9 @@
 -- `read_pieces`: k pieces are read.
-use mathlib.Core.Path.{◌≡◌, sym, ap, ◌∙◌}
+use mathlib.Core.Path.{◌≡◌}
 use Prim.Native.Nat.{◌+◌, ◌-◌, ◌*◌, ◌≤◌, ◌<◌}
-use native.Mathlib.Omega.{arith}
-use lib.ListN.{length, drop}
+use lib.ListN.{drop}
 use Rattle.notation.specs.Line.{read_pieces}
 use Rattle.mnemonics.specs.Rows.{row_at}
-use Rattle.line.proofs.Fields.{piece_small}
-use Rattle.line.proofs.Pieces.{no_more, stops, steps}
 use Rattle.line.proofs.read_pieces.Given as goal
 
 abbrev pub invariant-loop-k : goal.invariant-loop-k

@@ -10,7 +10,7 @@ returns c =
       same
           (joined c.put-first.ensures
           (joined c.put_spaced-second.ensures.0
-          (joined c.put_line.ensures.0
+          (joined c.put_line-third.ensures.0
           (joined c.put_line-fourth.ensures.0
           (joined c.put_line-fifth.ensures.0 c.put_line.ensures.0)))))
           (grouped a.stop a.detail a.finished a.loads a.dpc),

@@ -6,4 +6,4 @@ use Rattle.text.proofs.lines.put_line.Goals as goal
 
 pub returns : goal.returns
 returns c =
-    (joined c.put.ensures (joined c.put_spaced-end.ensures.0 c.put.ensures), omega arith)
+    (joined c.put-to.ensures (joined c.put_spaced-end.ensures.0 c.put.ensures), omega arith)

@@ -11,17 +11,8 @@ use Rattle.text.proofs.Numbers.{Reading, decimal_grows, number_large, number_non
 use borrow.Author.Rules.{rules}
 use Rattle.text.proofs.reading.number_at.Goals as goal
 
-add-t14 : tie.Need-overflow-add-t14 invariant-loop decreases-loop
-add-t14 c =
-    let test = c.before.before.before in
-    let line = test.before.before.before.args.line.now in
-    omega (arith, digit_inside line test.before.loop.i (sym test.digit_at.ensures ∙ c.before.before.if1.true))
-
-add-t16 : tie.Need-overflow-add-t16 invariant-loop decreases-loop
-add-t16 c = omega arith
-
-cast-t17 : tie.Need-overflow-cast-t17 invariant-loop decreases-loop
-cast-t17 c = omega (arith, c.before.before.before.loop.invariant.small)
+pub overflow_cast-result : goal.overflow_cast-result
+overflow_cast-result c = omega (arith, c.loop-value.invariant.small)
 
 pub loop-value-init : goal.loop-value-init
 loop-value-init c = record { from = omega arith; inside = omega arith; small = omega arith; value = refl; place = refl }
@@ -40,17 +31,17 @@ overflow_sub-value c =
     omega (arith, digit_low line c.loop-value.i (sym c.digit_at.ensures ∙ c.loop-value-test.true))
 
 pub overflow_cast-value : goal.overflow_cast-value
-overflow_cast-value c = omega (arith, c.shared_slice_known-in-loop-value-1.given c.loop-value.i)
+overflow_cast-value c = omega (arith, c.type_inv.line c.loop-value.i)
 
 pub overflow_add-value : goal.overflow_add-value
 overflow_add-value c =
     let loop = c.loop-value in
-    omega (arith, c.shared_slice_known-in-loop-value-1.given loop.i, loop.invariant.small)
+    omega (arith, c.type_inv.line loop.i, loop.invariant.small)
 
 pub returns-then-bound-value : goal.returns-then-bound-value
 unfolding number_at
 returns-then-bound-value c =
-    let line = test.before.before.before.args.line.now in
+    let line = c.args.line.now in
     let v = c.loop-value in
     let t : is_digit (get_or line v.i 0) ≡ true = sym c.digit_at.ensures ∙ c.loop-value-test.true in
     let h : v.i < length line = digit_inside line v.i t in

@@ -1,26 +1,25 @@
 -- `number`: a digit stands there, and what the number's reader answers.
 use mathlib.Core.Path.{sym, ◌∙◌}
 use native.Mathlib.Nat.{le_of_lt}
-use borrow.Author.Tests.{not-true, not-false}
 use Rattle.text.proofs.Numbers.{digit_inside}
 use Rattle.sums.proofs.Ways.{no_digit, digits}
 use borrow.Author.Rules.{rules}
 use Rattle.sums.proofs.number.Goals as goal
 
 pub returns-then-not-digit_at : goal.returns-then-not-digit_at
-returns-then-not-digit_at c = no_digit _ _ _ (sym c.digit_at.ensures ∙ not-true _ c.if-not-digit_at.true)
+returns-then-not-digit_at c = no_digit _ _ _ (sym c.digit_at.ensures ∙ c.if-not-digit_at.true)
 
 pub number_at-requires : goal.number_at-requires
 number_at-requires c =
     let a = c.args in
-    le_of_lt (digit_inside a.s.now a.at (sym c.digit_at.ensures ∙ not-false _ c.if-not-digit_at.false))
+    le_of_lt (digit_inside a.s.now a.at (sym c.digit_at.ensures ∙ c.if-not-digit_at.false))
 
 pub returns-in-Number : goal.returns-in-Number
 returns-in-Number c =
-    let digit = sym c.digit_at.ensures ∙ not-false _ c.if-not-digit_at.false in
-    digits _ _ _ digit (sym c.value-1.given.1 ∙ c.number_at.ensures)
+    let digit = sym c.digit_at.ensures ∙ c.if-not-digit_at.false in
+    digits _ _ _ digit c.in-Number.ensures
 
 pub returns-in-NotNumber : goal.returns-in-NotNumber
 returns-in-NotNumber c =
-    let digit = sym c.digit_at.ensures ∙ not-false _ c.if-not-digit_at.false in
-    digits _ _ _ digit (sym c.enum_told-1.given.1 ∙ c.number_at.ensures)
+    let digit = sym c.digit_at.ensures ∙ c.if-not-digit_at.false in
+    digits _ _ _ digit c.in-NotNumber.ensures

@@ -5,10 +5,10 @@ use Rattle.sums.proofs.Ways.{seen, start_here, start_behind}
 use borrow.Author.Rules.{rules}
 use Rattle.sums.proofs.start_of.Goals as goal
 
-add-skip : tie.Need-overflow-add-skip
-add-skip c =
-    let a = c.before.before.before.args in
-    omega (arith, seen a.s.now a.at c.before.byte_at_lem.ensures (search rules))
+pub overflow_add-at : goal.overflow_add-at
+overflow_add-at c =
+    let a = c.args in
+    omega (arith, seen a.s.now a.at c.byte_at.ensures (search rules))
 
 pub returns-then-byte_at-ne45 : goal.returns-then-byte_at-ne45
 returns-then-byte_at-ne45 c =

@@ -5,11 +5,11 @@ use Rattle.sums.specs.Small.{Small}
 use borrow.Author.Rules.{rules}
 use Rattle.sums.proofs.valued.Goals as goal
 
-add-t7 : tie.Need-overflow-add-t7
-add-t7 c = omega (arith, subst Small c.before.p2.given.1 c.before.before.before.requires)
+pub overflow_add-result : goal.overflow_add-result
+overflow_add-result c = omega (arith, subst Small c.in-Value.is c.requires)
 
 pub returns-in-Wrong : goal.returns-in-Wrong
-returns-in-Wrong c = simp c.p-1.given.1
+returns-in-Wrong c = simp c.in-Wrong.is
 
 pub returns-in-Value : goal.returns-in-Value
-returns-in-Value c = simp c.p-in-Value-1.given.1
+returns-in-Value c = simp c.in-Value.is

@@ -1,5 +1,5 @@
 -- A value that is read fits 32 bits.
-use Rattle.std.specs.Prelude.{ℕ, ◌<◌, ◌^◌}
+use Rattle.std.specs.Prelude.{◌<◌, ◌^◌}
 use Rattle.notation.specs.declared.Parsed.{Parsed}
 use Rattle.notation.specs.declared.Parsed.TheVariants.{Value, Wrong}
 

@@ -1,7 +1,6 @@
 -- `compare` is the comparison of its number.
-use Rattle.std.proofs.Common.{sym, ◌∙◌, arith, rules}
+use Rattle.std.proofs.Common.{sym, ◌∙◌, arith}
 use Rattle.alu.proofs.Words.{compared_same, compared_less, compared_more}
-use borrow.Author.Rules.{rules}
 use Rattle.alu.proofs.compare.Goals as goal
 
 pub returns-then-x-y : goal.returns-then-x-y

@@ -1,6 +1,5 @@
 -- `fill` is as bit 31 says.
-use Rattle.std.proofs.Common.{◌≡◌, ◌/◌, ◌%◌, arith, rules, eq-eqb, ne_eqb}
-use borrow.Author.Rules.{rules}
+use Rattle.std.proofs.Common.{◌/◌, ◌%◌, arith, eq-eqb, ne_eqb}
 use Rattle.alu.proofs.fill.Goals as goal
 
 pub returns-then-x-eq1 : goal.returns-then-x-eq1

@@ -1,7 +1,6 @@
 -- `less` is the signed order.
-use Rattle.std.proofs.Common.{◌≡◌, ◌^◌, arith, rules}
+use Rattle.std.proofs.Common.{◌≡◌, ◌^◌, arith}
 use Rattle.model.specs.Words.{plus}
-use borrow.Author.Rules.{rules}
 use Rattle.alu.proofs.less.Goals as goal
 
 pub returns : goal.returns

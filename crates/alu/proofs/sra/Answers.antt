@@ -1,7 +1,6 @@
 -- `sra` is the unsigned shift and the fill.
-use Rattle.std.proofs.Common.{◌/◌, ◌^◌, ap, rules}
+use Rattle.std.proofs.Common.{◌/◌, ◌^◌, ap}
 use lib.Bits.{bit_or}
-use borrow.Author.Rules.{rules}
 use Rattle.alu.proofs.sra.Goals as goal
 
 pub returns : goal.returns

@@ -1,7 +1,5 @@
 -- `top_ones`: no more is taken from a word of ones than it has.
 use lib.Pow.{shr_le}
-use Rattle.std.proofs.Common.{rules}
-use borrow.Author.Rules.{rules}
 use Rattle.alu.proofs.top_ones.Goals as goal
 
 pub overflow_sub-result : goal.overflow_sub-result

@@ -1,11 +1,8 @@
 -- `find`: the number is at none of the first i places of the part.
 use mathlib.Core.Path.{◌≡◌}
-use mathlib.Core.List.{List}
-use Prim.Native.Nat.{ℕ, ◌+◌, ◌-◌, ◌≤◌}
-use native.Mathlib.Omega.{arith}
+use Prim.Native.Nat.{◌+◌, ◌-◌, ◌≤◌}
 use lib.ListN.{take, drop}
 use Rattle.mnemonics.specs.Rows.{first_in}
-use Rattle.mnemonics.proofs.Tabled.{first_here, first_further, first_nowhere, length_part, part_at}
 use Rattle.mnemonics.proofs.find.Given as goal
 
 abbrev pub invariant-loop-i : goal.invariant-loop-i

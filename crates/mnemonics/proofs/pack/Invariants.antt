@@ -1,11 +1,8 @@
 -- `pack`: from the back, the bytes from place i on are packed.
 use mathlib.Core.Path.{◌≡◌}
-use Prim.Native.Nat.{◌-◌, ◌≤◌}
-use native.Mathlib.Omega.{arith}
+use Prim.Native.Nat.{◌≤◌}
 use lib.ListN.{length, drop}
-use lib.Seq.{drop-length}
 use Rattle.mnemonics.specs.Rows.{packed}
-use Rattle.mnemonics.proofs.Packing.{packed_back, packed_few}
 use Rattle.mnemonics.proofs.pack.Given as goal
 
 abbrev pub invariant-loop-i : goal.invariant-loop-i

@@ -4,7 +4,7 @@ use Rattle.text.proofs.Appending.{length_appended}
 use Rattle.mnemonics.specs.Rows.{row_at}
 use Rattle.mnemonics.proofs.Rows.{row_formed}
 use Rattle.mnemonics.proofs.Tabled.{name_at_lem}
-use Rattle.mnemonics.proofs.Unpacking.{Left, begun, room, again, ended}
+use Rattle.mnemonics.proofs.Unpacking.{begun, room, again, ended}
 use borrow.Author.Rules.{rules}
 use Rattle.mnemonics.proofs.put_name.Goals as goal
 

@@ -1,10 +1,6 @@
 -- `put_name`: the first bytes of the name stand in the buffer, and the rest is what is left, packed.
-use native.Mathlib.Omega.{arith}
-use Rattle.text.proofs.Appending.{length_appended}
 use Rattle.mnemonics.specs.Rows.{row_at}
-use Rattle.mnemonics.proofs.Rows.{row_formed}
-use Rattle.mnemonics.proofs.Tabled.{name_at_lem}
-use Rattle.mnemonics.proofs.Unpacking.{Left, begun, room, again, ended}
+use Rattle.mnemonics.proofs.Unpacking.{Left}
 use Rattle.mnemonics.proofs.put_name.Given as goal
 
 abbrev pub invariant-loop-left : goal.invariant-loop-left

@@ -3,7 +3,6 @@ use mathlib.Core.Path.{refl}
 use Rattle.model.specs.Choice.{every_below}
 use Rattle.notation.specs.Table.{rows, spelled}
 use Rattle.mnemonics.specs.Rows.{packed}
-use borrow.Author.Rules.{rules}
 use Rattle.mnemonics.proofs.table.Goals as goal
 
 pub returns : goal.returns

@@ -1,7 +1,6 @@
 -- `blank` is the definition.
 use mathlib.Core.Path.{refl}
 use Rattle.notation.specs.Sums.{is_blank}
-use borrow.Author.Rules.{rules}
 use Rattle.sums.proofs.blank.Goals as goal
 
 pub returns : goal.returns

@@ -1,6 +1,5 @@
 -- `join`: what is kept, as the sign says.
 use mathlib.Core.Path.{◌∙◌}
-use borrow.Author.Rules.{rules}
 use Rattle.sums.proofs.join.Goals as goal
 
 pub returns-then-minus : goal.returns-then-minus

@@ -3,7 +3,6 @@ use mathlib.Core.Path.{sym, ◌∙◌}
 use native.Mathlib.Nat.{le_of_lt}
 use Rattle.text.proofs.Numbers.{digit_inside}
 use Rattle.sums.proofs.Ways.{no_digit, digits}
-use borrow.Author.Rules.{rules}
 use Rattle.sums.proofs.number.Goals as goal
 
 pub returns-then-not-digit_at : goal.returns-then-not-digit_at

@@ -3,11 +3,9 @@ use mathlib.Core.Bool.{Bool}
 use mathlib.Core.List.{List}
 use mathlib.Core.Path.{◌≡◌, refl, sym, ap, ◌∙◌}
 use native.Mathlib.Omega.{arith}
-use Prim.Native.Nat.{ℕ, ◌-◌, ◌<◌}
-use lib.ListN.{length}
-use Rattle.notation.specs.Sums.{is_blank, byte_at, skipped}
+use Prim.Native.Nat.{ℕ}
+use Rattle.notation.specs.Sums.{is_blank, byte_at}
 use Rattle.grammar.proofs.Sums.{skip_more, skip_none, blank_inside}
-use borrow.Author.Rules.{rules}
 use Rattle.sums.proofs.skip.Goals as goal
 
 -- a blank stands at i, as the code tests for it, or none

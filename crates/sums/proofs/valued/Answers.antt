@@ -2,7 +2,6 @@
 use mathlib.Core.Path.{subst}
 use native.Mathlib.Omega.{arith}
 use Rattle.sums.specs.Small.{Small}
-use borrow.Author.Rules.{rules}
 use Rattle.sums.proofs.valued.Goals as goal
 
 pub overflow_add-result : goal.overflow_add-result

@@ -1,13 +1,11 @@
 -- `put`: after i turns the first i bytes stand in the buffer.
-use Prim.Native.Nat.{◌+◌, ◌-◌, ◌≤◌}
+use Prim.Native.Nat.{◌+◌}
 use native.Mathlib.Nat.{add-zero, add_assoc}
 use native.Mathlib.Numerals.{add-one}
 use native.Mathlib.Omega.{arith}
-use lib.ListN.{length, take, get_or}
+use lib.ListN.{get_or}
 use lib.Seq.{take-suc, take_all}
-use Rattle.text.specs.Text.{Appended}
 use Rattle.text.proofs.Appending.{nothing, byte, joined, same, length_appended}
-use borrow.Author.Rules.{rules}
 use Rattle.text.proofs.put.Goals as goal
 
 pub loop-i-init : goal.loop-i-init

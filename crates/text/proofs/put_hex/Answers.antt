@@ -1,13 +1,11 @@
 -- `put_hex`: after i turns the first i bytes stand in the buffer, two digits each.
-use mathlib.Core.Path.{◌≡◌, ap}
-use Prim.Native.Nat.{◌+◌, ◌-◌, ◌*◌, ◌≤◌}
+use mathlib.Core.Path.{ap}
 use native.Mathlib.Omega.{arith}
-use lib.ListN.{length, take, length-set}
+use lib.ListN.{length-set}
 use lib.Seq.{take_all}
-use Rattle.text.specs.Text.{Appended, hex_of}
+use Rattle.text.specs.Text.{hex_of}
 use Rattle.text.proofs.Appending.{nothing, same, length_appended}
 use Rattle.text.proofs.Digits.{hex_step}
-use borrow.Author.Rules.{rules}
 use Rattle.text.proofs.put_hex.Goals as goal
 
 pub loop-i-init : goal.loop-i-init

@@ -1,12 +1,8 @@
 -- `put_hex`: after i turns the first i bytes stand in the buffer, two digits each.
-use mathlib.Core.Path.{◌≡◌, ap}
+use mathlib.Core.Path.{◌≡◌}
 use Prim.Native.Nat.{◌+◌, ◌-◌, ◌*◌, ◌≤◌}
-use native.Mathlib.Omega.{arith}
-use lib.ListN.{length, take, length-set}
-use lib.Seq.{take_all}
+use lib.ListN.{length, take}
 use Rattle.text.specs.Text.{Appended, hex_of}
-use Rattle.text.proofs.Appending.{nothing, same, length_appended}
-use Rattle.text.proofs.Digits.{hex_step}
 use Rattle.text.proofs.put_hex.Given as goal
 
 abbrev pub invariant-loop-i : goal.invariant-loop-i

@@ -1,7 +1,6 @@
 -- `put_number`: ten digits are enough for a number below 2^32.
 use native.Mathlib.Omega.{arith}
 use Rattle.text.proofs.Digits.{length_digits}
-use borrow.Author.Rules.{rules}
 use Rattle.text.proofs.put_number.Goals as goal
 
 pub returns : goal.returns

@@ -1,7 +1,6 @@
 -- `put_line`: the word, the number, the end of the line.
 use native.Mathlib.Omega.{arith}
 use Rattle.text.proofs.Appending.{joined}
-use borrow.Author.Rules.{rules}
 use Rattle.text.proofs.lines.put_line.Goals as goal
 
 pub returns : goal.returns

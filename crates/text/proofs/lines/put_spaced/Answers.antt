@@ -1,7 +1,6 @@
 -- `put_spaced`: the space, then the number.
 use native.Mathlib.Omega.{arith}
 use Rattle.text.proofs.Appending.{joined}
-use borrow.Author.Rules.{rules}
 use Rattle.text.proofs.lines.put_spaced.Goals as goal
 
 pub returns : goal.returns

@@ -1,12 +1,11 @@
 -- `reading::hex_end`: the digits before i are passed.
 use mathlib.Core.Path.{◌≡◌, refl, sym, ap, ◌∙◌}
-use Prim.Native.Nat.{◌+◌, ◌-◌, ◌≤◌, ◌<◌}
+use Prim.Native.Nat.{◌<◌}
 use native.Mathlib.Omega.{arith}
 use mathlib.Core.Bool.{true}
-use lib.ListN.{length, get_or, drop}
-use Rattle.text.specs.Reading.{front, is_hex, hex_end}
+use lib.ListN.{length, get_or}
+use Rattle.text.specs.Reading.{is_hex, hex_end}
 use Rattle.text.proofs.Fronts.{front_more, front_stop, inside}
-use borrow.Author.Rules.{rules}
 use Rattle.text.proofs.reading.hex_end.Goals as goal
 
 pub loop-i-init : goal.loop-i-init

@@ -1,11 +1,8 @@
 -- `reading::hex_end`: the digits before i are passed.
-use mathlib.Core.Path.{◌≡◌, refl, sym, ap, ◌∙◌}
-use Prim.Native.Nat.{◌+◌, ◌-◌, ◌≤◌, ◌<◌}
-use native.Mathlib.Omega.{arith}
-use mathlib.Core.Bool.{true}
-use lib.ListN.{length, get_or, drop}
-use Rattle.text.specs.Reading.{front, is_hex, hex_end}
-use Rattle.text.proofs.Fronts.{front_more, front_stop, inside}
+use mathlib.Core.Path.{◌≡◌}
+use Prim.Native.Nat.{◌+◌, ◌-◌, ◌≤◌}
+use lib.ListN.{length, drop}
+use Rattle.text.specs.Reading.{front, is_hex}
 use Rattle.text.proofs.reading.hex_end.Given as goal
 
 abbrev pub invariant-loop-i : goal.invariant-loop-i

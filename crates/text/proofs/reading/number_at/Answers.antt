@@ -7,8 +7,7 @@ use native.Mathlib.Omega.{arith}
 use lib.ListN.{length, get_or, drop}
 use Rattle.text.specs.Reading.{front, is_digit, decimal, number_at}
 use Rattle.text.proofs.Fronts.{front_stop}
-use Rattle.text.proofs.Numbers.{Reading, decimal_grows, number_large, number_none, number_read, one_more, one_further, digit_inside, digit_low}
-use borrow.Author.Rules.{rules}
+use Rattle.text.proofs.Numbers.{decimal_grows, number_large, number_none, number_read, one_more, one_further, digit_inside, digit_low}
 use Rattle.text.proofs.reading.number_at.Goals as goal
 
 pub overflow_cast-result : goal.overflow_cast-result

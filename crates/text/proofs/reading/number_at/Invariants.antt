@@ -1,13 +1,7 @@
 -- `reading::number_at`: `Reading` holds after each digit.
-use mathlib.Core.Path.{◌≡◌, refl, sym, ap, ◌∙◌}
-use mathlib.Core.Bool.{true}
-use mathlib.Core.List.{[]}
-use Prim.Native.Nat.{◌+◌, ◌*◌, ◌-◌, ◌<◌}
-use native.Mathlib.Omega.{arith}
-use lib.ListN.{length, get_or, drop}
-use Rattle.text.specs.Reading.{front, is_digit, decimal, number_at}
-use Rattle.text.proofs.Fronts.{front_stop}
-use Rattle.text.proofs.Numbers.{Reading, decimal_grows, number_large, number_none, number_read, one_more, one_further, digit_inside, digit_low}
+use Prim.Native.Nat.{◌-◌}
+use lib.ListN.{length}
+use Rattle.text.proofs.Numbers.{Reading}
 use Rattle.text.proofs.reading.number_at.Given as goal
 
 abbrev pub invariant-loop-value : goal.invariant-loop-value

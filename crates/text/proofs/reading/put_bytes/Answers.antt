@@ -1,13 +1,12 @@
 -- `reading::put_bytes`: after k turns the first k bytes stand in the buffer.
 use mathlib.Core.Path.{◌≡◌, refl, sym, ap, ◌∙◌}
-use Prim.Native.Nat.{◌+◌, ◌-◌, ◌*◌, ◌≤◌, ◌/◌}
+use Prim.Native.Nat.{◌+◌, ◌*◌}
 use native.Mathlib.Omega.{arith}
-use lib.ListN.{length, get_or, set, length-set}
+use lib.ListN.{get_or, set, length-set}
 use lib.Seq.{paste, paste-zero}
 use Rattle.laws.proofs.Over.{over_more, over_done}
 use Rattle.text.specs.Reading.{bytes_of}
 use Rattle.text.proofs.Pairs.{length-bytes_of, byte_at_lem}
-use borrow.Author.Rules.{rules}
 use Rattle.text.proofs.reading.put_bytes.Goals as goal
 
 pub loop-k-init : goal.loop-k-init

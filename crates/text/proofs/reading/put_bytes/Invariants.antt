@@ -1,12 +1,9 @@
 -- `reading::put_bytes`: after k turns the first k bytes stand in the buffer.
-use mathlib.Core.Path.{◌≡◌, refl, sym, ap, ◌∙◌}
-use Prim.Native.Nat.{◌+◌, ◌-◌, ◌*◌, ◌≤◌, ◌/◌}
-use native.Mathlib.Omega.{arith}
-use lib.ListN.{length, get_or, set, length-set}
-use lib.Seq.{paste, paste-zero}
-use Rattle.laws.proofs.Over.{over_more, over_done}
+use mathlib.Core.Path.{◌≡◌}
+use Prim.Native.Nat.{◌-◌, ◌≤◌, ◌/◌}
+use lib.ListN.{length}
+use lib.Seq.{paste}
 use Rattle.text.specs.Reading.{bytes_of}
-use Rattle.text.proofs.Pairs.{length-bytes_of, byte_at_lem}
 use Rattle.text.proofs.reading.put_bytes.Given as goal
 
 abbrev pub invariant-loop-k : goal.invariant-loop-k

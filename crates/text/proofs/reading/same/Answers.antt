@@ -1,9 +1,6 @@
 -- `reading::same`: the first i bytes are the same.
-use mathlib.Core.Path.{◌≡◌, refl, sym, ◌∙◌}
-use Prim.Native.Nat.{◌≤◌, ◌-◌}
+use mathlib.Core.Path.{refl, sym, ◌∙◌}
 use native.Mathlib.Omega.{arith}
-use lib.ListN.{length, drop}
-use Rattle.model.specs.Bytes.{same}
 use Rattle.text.proofs.Words.{unequal, byte_same, byte_other, all_same}
 use borrow.Author.Rules.{rules}
 use Rattle.text.proofs.reading.same.Goals as goal

@@ -1,10 +1,8 @@
 -- `reading::same`: the first i bytes are the same.
-use mathlib.Core.Path.{◌≡◌, refl, sym, ◌∙◌}
+use mathlib.Core.Path.{◌≡◌}
 use Prim.Native.Nat.{◌≤◌, ◌-◌}
-use native.Mathlib.Omega.{arith}
 use lib.ListN.{length, drop}
 use Rattle.model.specs.Bytes.{same}
-use Rattle.text.proofs.Words.{unequal, byte_same, byte_other, all_same}
 use Rattle.text.proofs.reading.same.Given as goal
 
 abbrev pub invariant-loop-i : goal.invariant-loop-i

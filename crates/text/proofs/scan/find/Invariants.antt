@@ -8,7 +8,7 @@ abbrev pub invariant-loop-at : goal.invariant-loop-at
 invariant-loop-at l = record {
   from : l.from ≤ l.at;
   to : l.at ≤ l.to;
-  same : l.at + index_of l.b (slice l.at l.to l.s) ≡ l.from + index_of l.b (slice l.from l.to l.s)
+  same : l.at + index_of l.b (slice l.at l.to l.s) ≡ l.from + index_of l.b (slice l.from l.to l.s);
 }
 
 abbrev pub decreases-loop-at : goal.decreases-loop-at

@@ -1,5 +1,5 @@
 -- Whether both machines agree, at each way out: the registers differ, DPC or PC' does, or it is the memory that tells.
-use mathlib.Core.Path.{◌≡◌, sym, ◌∙◌}
+use mathlib.Core.Path.{◌≡◌, sym}
 use mathlib.Core.Bool.{true, false, and-true}
 use mathlib.Core.List.{List}
 use Prim.Native.Nat.{ℕ}

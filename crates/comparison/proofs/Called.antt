@@ -1,9 +1,9 @@
 -- What a call leaves: the answer of the plain engine is said, and `differ LINE` behind it where the machines are not alike (`call_told`);
 -- and the paged machine stays good (`stands_after`).
 use mathlib.Core.Bool.{Bool, true, false, ◌&&◌}
-use mathlib.Core.Path.{◌≡◌, refl, sym, ap, ap₂, subst, ◌∙◌}
+use mathlib.Core.Path.{◌≡◌, refl, ap}
 use mathlib.Core.List.{List, [], ◌++◌, append-nil}
-use Prim.Native.Nat.{ℕ, ◌*◌}
+use Prim.Native.Nat.{ℕ}
 use native.Mathlib.Omega.{arith}
 use lib.ListN.{length, take}
 use Rattle.model.specs.Choice.{if◌then◌else◌}
@@ -28,7 +28,7 @@ use Rattle.plainsession.specs.Answers as plain
 use Rattle.comparison.specs.Answers.{paged_answered}
 use Rattle.comparison.specs.Both.{Both, agree, Stands}
 use Rattle.comparison.specs.Desk.{Desk, desk, going, over, told_of, Tells}
-use Rattle.comparison.specs.Line.{compared, both_after, called}
+use Rattle.comparison.specs.Line.{compared, called}
 use Rattle.comparison.specs.declared.Told.{Told}
 
 -- ---- behind the answer, by whether they are alike

@@ -1,17 +1,16 @@
 -- The program never says `differ` (`never_differs`). Two machines are alike where any series of steps finds them the same: by `every_same`
 -- those that loading makes are, and a call leaves them so.
-use mathlib.Core.Bool.{Bool, true, false, ◌&&◌, true≢false}
-use mathlib.Core.Path.{◌≡◌, refl, sym, ap, ap₂, subst, ◌∙◌}
+use mathlib.Core.Bool.{Bool, true, false, true≢false}
+use mathlib.Core.Path.{◌≡◌, refl, sym, ap, ap₂}
 use mathlib.Core.List.{List, [], ◌∷◌, ◌++◌}
 use Prim.Native.Nat.{ℕ, suc, ◌*◌}
 use lib.Dec.{eqb}
-use lib.ListN.{length, drop, replicate, length-replicate}
+use lib.ListN.{length, drop, length-replicate}
 use borrow.Author.Tests.{eq-eqb, eqb-true}
 use Rattle.model.specs.Choice.{if◌then◌else◌}
 use Rattle.model.specs.Bytes.{same}
-use Rattle.model.specs.State.{Memory, memory, State}
+use Rattle.model.specs.State.{Memory}
 use Rattle.model.specs.Pages.{virtual}
-use Rattle.model.specs.Flat.{flat_bytes}
 use Rattle.model.specs.Console.{or_refused}
 use Rattle.model.specs.Image.{ptl_of, load_call}
 use Rattle.model.specs.Series as series
@@ -21,7 +20,6 @@ use Rattle.model.specs.declared.Verdict.{Verdict}
 use Rattle.model.specs.declared.Verdict.TheVariants.{Granted, Refused}
 use Rattle.laws.proofs.Choice.{and_both, pass_none, pass_more}
 use Rattle.laws.proofs.Formed.{load_facts, image_onward}
-use Rattle.plainmodel.specs.State.{PlainState}
 use Rattle.plainmodel.specs.Load as plain-load
 use Rattle.plainmodel.specs.Series as plain-series
 use Rattle.demands.specs.Same.{Said, paged_call, plain_call, paged_tells, plain_tells, SameMachine, SameSeries}
@@ -39,7 +37,7 @@ use Rattle.comparison.specs.Both.{Both, agreeing, agree}
 use Rattle.plainsession.specs.Answers as plain
 use Rattle.comparison.specs.Answers.{paged_answered}
 use Rattle.comparison.specs.Desk.{Desk, going}
-use Rattle.comparison.specs.Begun.{loaded_into, begun}
+use Rattle.comparison.specs.Begun.{begun}
 use Rattle.comparison.specs.Grammar.{asked_of}
 use Rattle.comparison.specs.Line.{compared, both_after, spoken_by, spoken}
 use Rattle.comparison.specs.Compare.{closed, begun_with, text_by, compare_text}

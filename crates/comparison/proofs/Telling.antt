@@ -11,7 +11,7 @@ use Rattle.answerlines.specs.Lines.{bad_text}
 use Rattle.script.specs.declared.parts.Numbers.{Numbers}
 use Rattle.script.specs.declared.Call.{Call}
 use Rattle.script.proofs.Asked.{rest_is}
-use Rattle.comparison.specs.Both.{Both, Stands}
+use Rattle.comparison.specs.Both.{Stands}
 use Rattle.comparison.specs.Desk.{Desk, desk, told_of, Tells}
 use Rattle.comparison.specs.Grammar.{asked_of}
 use Rattle.comparison.specs.Line.{compared, called, spoken_by, spoken}

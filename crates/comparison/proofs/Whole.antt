@@ -1,6 +1,6 @@
 -- What the beginning, the stretches of a script and its end say, one after another, is all that is said to it (`whole_text`).
-use mathlib.Core.Path.{◌≡◌, ap, ◌∙◌}
-use mathlib.Core.List.{List, append_assoc}
+use mathlib.Core.Path.{ap, ◌∙◌}
+use mathlib.Core.List.{append_assoc}
 use Rattle.talk.specs.Stretch.{joined}
 use Rattle.talk.proofs.Whole.{whole_talk}
 use Rattle.comparison.specs.Line.{spoken}

@@ -2,7 +2,6 @@
 use native.Mathlib.Omega.{arith}
 use borrow.Author.Tests.{not-true, not-false}
 use Rattle.text.proofs.Appending.{nothing}
-use borrow.Author.Rules.{rules}
 use Rattle.comparison.proofs.close.Goals as goal
 
 pub returns-then-not-at : goal.returns-then-not-at

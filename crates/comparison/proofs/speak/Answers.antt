@@ -1,23 +1,12 @@
 -- `speak`: between two lines, what is said and what is still to be said are together what was to be said.
 use Prim.Native.Nat.{◌-◌}
 use native.Mathlib.Omega.{arith}
-use lib.ListN.{length, drop, length-take}
-use Rattle.model.specs.State.{state}
-use Rattle.text.proofs.Appending.{within, length_appended}
-use Rattle.talk.proofs.Talking.{Between, at_first, line_left, answer_fits, goes_on, ends, done}
-use Rattle.comparison.specs.Both.{Stands}
-use Rattle.comparison.specs.Desk.{desk}
+use lib.ListN.{drop, length-take}
+use Rattle.text.proofs.Appending.{length_appended}
+use Rattle.talk.proofs.Talking.{at_first, line_left, answer_fits, goes_on, ends, done}
 use Rattle.comparison.specs.Line.{spoken}
-use Rattle.comparison.specs.Script.{reached}
-use Rattle.comparison.proofs.Reached.{renumbered, Lengths, as_they_were, kept}
-use borrow.Author.Rules.{rules}
+use Rattle.comparison.proofs.Reached.{renumbered, as_they_were, kept}
 use Rattle.comparison.proofs.speak.Goals as goal
-
-sub-loop : tie.Need-overflow-sub-loop invariant-loop decreases-loop
-sub-loop c = within c.loop.invariant.0.text
-
-sub-step : tie.Need-overflow-sub-step invariant-loop decreases-loop
-sub-step c = omega (arith, c.before.before.before.before.find.ensures.0)
 
 pub loop-place-init : goal.loop-place-init
 loop-place-init c =
@@ -34,49 +23,48 @@ overflow_add-number c =
     omega (arith, line_left spoken c.loop-place.invariant.0 c.loop-place-test.true, c.loop-place.invariant.0.numbered, c.requires.2)
 
 pub slice_bounds-step-start : goal.slice_bounds-step-start
-slice_bounds-step-start c = omega (arith, c.find-end.ensures.0, c.find-end.ensures.1)
+slice_bounds-step-start c = omega (arith, c.find-end.ensures.place, c.find-end.ensures.within.1)
 
 pub slice_bounds-step-end : goal.slice_bounds-step-end
-slice_bounds-step-end c = omega (arith, c.find-end.ensures.0, c.find-end.ensures.1)
+slice_bounds-step-end c = omega (arith, c.find-end.ensures.place, c.find-end.ensures.within.1)
 
 pub step-told-requires : goal.step-told-requires
-step-told-requires c =
-    (
-      c.loop-place.invariant.1,
-      answer_fits spoken c.loop-place.invariant.0 c.loop-place-test.true,
-      omega (
-        arith,
-        length-take (c.find-end.result - c.loop-place.place) (drop c.loop-place.place c.args.script.now),
-        c.find-end.ensures.1,
-        c.requires.2,
-      ),
-    )
+step-told-requires c = (
+  c.loop-place.invariant.1,
+  answer_fits spoken c.loop-place.invariant.0 c.loop-place-test.true,
+  omega (
+    arith,
+    length-take (c.find-end.result - c.loop-place.place) (drop c.loop-place.place c.args.script.now),
+    c.find-end.ensures.within.1,
+    c.requires.2,
+  ),
+)
 
 pub overflow_add-place : goal.overflow_add-place
 overflow_add-place c =
-    omega (arith, c.find-end.ensures.1, c.requires.2)
+    omega (arith, c.find-end.ensures.within.1, c.requires.2)
 
 pub loop-place-smaller-then-next : goal.loop-place-smaller-then-next
 loop-place-smaller-then-next c =
-    omega (arith, line_left spoken c.loop-place.invariant.0 c.loop-place-test.true, c.find-end.ensures.0)
+    omega (arith, line_left spoken c.loop-place.invariant.0 c.loop-place-test.true, c.find-end.ensures.place)
 
 pub loop-place-preserved-then-next : goal.loop-place-preserved-then-next
 loop-place-preserved-then-next c =
     let told = c.step-told.ensures in (
-      renumbered told.1.1 (goes_on spoken c.loop-place.invariant.0 c.loop-place-test.true c.find-end.result c.find-end.ensures.0 told.0 c.if-next.true),
-      told.1.0,
+      renumbered told.stands.1 (goes_on spoken c.loop-place.invariant.0 c.loop-place-test.true c.find-end.result c.find-end.ensures.place told.tells c.if-next.true),
+      told.stands.0,
       kept c.loop-place.invariant.2 (omega arith) (omega arith) (omega arith),
     )
 
 pub loop-place-smaller : goal.loop-place-smaller
 loop-place-smaller c =
-    omega (arith, line_left spoken c.loop-place.invariant.0 c.loop-place-test.true, c.find-end.ensures.0)
+    omega (arith, line_left spoken c.loop-place.invariant.0 c.loop-place-test.true, c.find-end.ensures.place)
 
 pub loop-place-preserved : goal.loop-place-preserved
 loop-place-preserved c =
     let told = c.step-told.ensures in (
-      renumbered told.1.1 (ends spoken c.loop-place.invariant.0 c.loop-place-test.true c.find-end.result c.find-end.ensures.0 told.0 c.if-next.false),
-      told.1.0,
+      renumbered told.stands.1 (ends spoken c.loop-place.invariant.0 c.loop-place-test.true c.find-end.result c.find-end.ensures.place told.tells c.if-next.false),
+      told.stands.0,
       kept c.loop-place.invariant.2 (omega arith) (omega arith) (omega arith),
     )
 
@@ -95,4 +83,4 @@ shape_of-out c = length_appended c.loop-place.invariant.0.text
 pub returns : goal.returns
 returns c =
     let b = c.loop-place.invariant in
-    ((b.1, b.0.numbered), done spoken b.0 c.loop-place-test.false)
+    record { stands = (b.1, b.0.numbered); goes = done spoken b.0 c.loop-place-test.false }

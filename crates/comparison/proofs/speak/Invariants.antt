@@ -1,15 +1,13 @@
 -- `speak`: between two lines, what is said and what is still to be said are together what was to be said.
 use Prim.Native.Nat.{◌-◌}
-use native.Mathlib.Omega.{arith}
-use lib.ListN.{length, drop, length-take}
+use lib.ListN.{length}
 use Rattle.model.specs.State.{state}
-use Rattle.text.proofs.Appending.{within, length_appended}
-use Rattle.talk.proofs.Talking.{Between, at_first, line_left, answer_fits, goes_on, ends, done}
+use Rattle.talk.proofs.Talking.{Between}
 use Rattle.comparison.specs.Both.{Stands}
 use Rattle.comparison.specs.Desk.{desk}
 use Rattle.comparison.specs.Line.{spoken}
 use Rattle.comparison.specs.Script.{reached}
-use Rattle.comparison.proofs.Reached.{renumbered, Lengths, as_they_were, kept}
+use Rattle.comparison.proofs.Reached.{Lengths}
 use Rattle.comparison.proofs.speak.Given as goal
 
 abbrev pub invariant-loop-place : goal.invariant-loop-place

@@ -2,7 +2,6 @@
 use mathlib.Core.Path.{ap}
 use Rattle.model.specs.Console.{refused_line}
 use Rattle.text.proofs.Appending.{same}
-use borrow.Author.Rules.{rules}
 use Rattle.comparison.proofs.turned_away.Goals as goal
 
 pub returns : goal.returns

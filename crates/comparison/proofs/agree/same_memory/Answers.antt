@@ -1,12 +1,9 @@
 -- `agree::same_memory`: before page x all pages below it are compared.
 use mathlib.Core.Path.{refl}
-use Prim.Native.Nat.{◌-◌, ◌*◌, ◌≤◌}
+use Prim.Native.Nat.{◌*◌}
 use native.Mathlib.Omega.{arith}
-use Rattle.model.specs.State.{memory}
-use Rattle.model.specs.Flat.{flat_bytes}
-use Rattle.words.proofs.Compared.{So, same_end}
+use Rattle.words.proofs.Compared.{same_end}
 use Rattle.comparison.proofs.Compared.{same_page_lem, flat_long}
-use borrow.Author.Rules.{rules}
 use Rattle.comparison.proofs.agree.same_memory.Goals as goal
 
 pub loop-x-init : goal.loop-x-init

@@ -1,11 +1,8 @@
 -- `agree::same_memory`: before page x all pages below it are compared.
-use mathlib.Core.Path.{refl}
 use Prim.Native.Nat.{◌-◌, ◌*◌, ◌≤◌}
-use native.Mathlib.Omega.{arith}
 use Rattle.model.specs.State.{memory}
 use Rattle.model.specs.Flat.{flat_bytes}
-use Rattle.words.proofs.Compared.{So, same_end}
-use Rattle.comparison.proofs.Compared.{same_page_lem, flat_long}
+use Rattle.words.proofs.Compared.{So}
 use Rattle.comparison.proofs.agree.same_memory.Given as goal
 
 abbrev pub invariant-loop-x : goal.invariant-loop-x

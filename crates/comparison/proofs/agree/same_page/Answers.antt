@@ -1,11 +1,10 @@
 -- `agree::same_page`: what is handed out is the flat memory's page.
-use mathlib.Core.Path.{sym, ap, ap₂, ◌∙◌}
+use mathlib.Core.Path.{ap, ap₂, ◌∙◌}
 use native.Mathlib.Omega.{arith}
 use lib.ListN.{length}
 use Rattle.model.specs.Bytes.{same}
 use Rattle.words.proofs.Copies.{part_page}
 use Rattle.comparison.proofs.Compared.{reachable, page_flat, page_long}
-use borrow.Author.Rules.{rules}
 use Rattle.comparison.proofs.agree.same_page.Goals as goal
 
 pub page_part-part-requires : goal.page_part-part-requires

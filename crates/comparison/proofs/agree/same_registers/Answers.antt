@@ -1,8 +1,7 @@
 -- `agree::same_registers`: after i turns the first i registers are compared.
 use mathlib.Core.Path.{refl}
-use Prim.Native.Nat.{◌-◌, ◌≤◌}
 use native.Mathlib.Omega.{arith}
-use Rattle.words.proofs.Compared.{So, same_next, same_end}
+use Rattle.words.proofs.Compared.{same_next, same_end}
 use borrow.Author.Rules.{rules}
 use Rattle.comparison.proofs.agree.same_registers.Goals as goal
 

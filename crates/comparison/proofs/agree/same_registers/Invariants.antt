@@ -1,8 +1,6 @@
 -- `agree::same_registers`: after i turns the first i registers are compared.
-use mathlib.Core.Path.{refl}
 use Prim.Native.Nat.{◌-◌, ◌≤◌}
-use native.Mathlib.Omega.{arith}
-use Rattle.words.proofs.Compared.{So, same_next, same_end}
+use Rattle.words.proofs.Compared.{So}
 use Rattle.comparison.proofs.agree.same_registers.Given as goal
 
 abbrev pub invariant-loop-i : goal.invariant-loop-i

@@ -3,7 +3,6 @@ use mathlib.Core.Path.{ap}
 use Rattle.model.specs.Calls.{RunOutcome}
 use Rattle.text.proofs.Appending.{same}
 use Rattle.comparison.proofs.Answered.{run_refused, run_ran}
-use borrow.Author.Rules.{rules}
 use Rattle.comparison.proofs.paged.run.Goals as goal
 
 pub returns-in-NotRun : goal.returns-in-NotRun
@@ -11,17 +10,9 @@ returns-in-NotRun c =
     let ran = c.run-result in
     rw (c.left.ensures.0, c.left.ensures.1)
     (record {
-      text = same c.refused_line.ensures.0 (run_refused ran.result.answer _ _ ran.ensures c.answer-1.given.1 c.refusal_number.ensures);
+      text = same c.refused_line.ensures.0 (run_refused ran.result.answer _ _ ran.ensures c.in-NotRun.is c.refusal_number.ensures);
       state = ap (λ (o : RunOutcome). o.state) ran.ensures;
     })
-
-pub shape_of-main-in-Ran : goal.shape_of-main-in-Ran
-shape_of-main-in-Ran c =
-    c.run-result.auto.1.0
-
-pub shape_of-swap-in-Ran : goal.shape_of-swap-in-Ran
-shape_of-swap-in-Ran c =
-    c.run-result.auto.1.1.0
 
 pub returns-in-Ran : goal.returns-in-Ran
 returns-in-Ran c =
@@ -29,6 +20,6 @@ returns-in-Ran c =
     rw (c.left-in-Ran.ensures.0, c.left-in-Ran.ensures.1)
     (record {
       text = same c.numbers_line.ensures
-          (run_ran ran.result.answer _ _ ran.ensures c.answer-in-Ran-1.given.1 c.stop_number-number.ensures c.stop_detail.ensures);
+          (run_ran ran.result.answer _ _ ran.ensures c.in-Ran.is c.stop_number-number.ensures c.stop_detail.ensures);
       state = ap (λ (o : RunOutcome). o.state) ran.ensures;
     })

@@ -7,7 +7,6 @@ use Rattle.text.specs.Reading.{bytes_of}
 use Rattle.text.proofs.Appending.{counted, length_appended}
 use Rattle.comparison.specs.Both.{both}
 use Rattle.comparison.proofs.Called.{call_told, stands_after, stands_told}
-use borrow.Author.Rules.{rules}
 use Rattle.comparison.proofs.step.call.Goals as goal
 
 pub slice_bounds-same-end : goal.slice_bounds-same-end
@@ -20,9 +19,9 @@ slice_bounds-same-end-2 c =
 
 pub agree-requires : goal.agree-requires
 agree-requires c =
-    let a = start.args in
-    stands_after a.c a.n (bytes_of a.digits.now) (state a.at.machine a.main.now a.swap.now) start.requires.0 c.answer-theirs.ensures.state
-    c.answer-ours.auto.1.1.1.0
+    let a = c.args in
+    stands_after a.c a.n (bytes_of a.digits.now) (state a.at.machine a.main.now a.swap.now) c.requires.0 c.answer-theirs.ensures.state
+    c.answer-ours.auto.memory
 
 pub slice_bounds-put-end : goal.slice_bounds-put-end
 slice_bounds-put-end c =
@@ -31,14 +30,14 @@ slice_bounds-put-end c =
 pub put-behind-requires : goal.put-behind-requires
 put-behind-requires c =
     let text = c.answer-ours.ensures.text in
-    omega (arith, start.requires.1, text.room, counted text, length-replicate {A = ℕ} 8900 0)
+    omega (arith, c.requires.1, text.room, counted text, length-replicate {A = ℕ} 8900 0)
 
 pub judged-requires : goal.judged-requires
 judged-requires c =
     let text = c.answer-ours.ensures.text in
     omega (
       arith,
-      start.requires.1,
+      c.requires.1,
       text.room,
       counted text,
       length-replicate {A = ℕ} 8900 0,
@@ -47,20 +46,20 @@ judged-requires c =
     )
 
 pub shape_of-main : goal.shape_of-main
-shape_of-main c = c.answer-theirs.auto.1.1.1.0
+shape_of-main c = c.answer-theirs.auto.main
 
 pub shape_of-swap : goal.shape_of-swap
-shape_of-swap c = c.answer-theirs.auto.1.1.1.1.0
+shape_of-swap c = c.answer-theirs.auto.swap
 
 pub shape_of-memory : goal.shape_of-memory
-shape_of-memory c = c.answer-ours.auto.1.1.1.0
+shape_of-memory c = c.answer-ours.auto.memory
 
 pub returns : goal.returns
 returns c =
-    let a = start.args in
+    let a = c.args in
     let bytes = bytes_of a.digits.now in
-    let judged = c.judged.ensures in (
-      call_told a.c a.n bytes a.number (both a.at.machine a.main.now a.swap.now a.at.plain a.memory.now a.rights.now)
-          c.answer-ours.ensures c.answer-theirs.ensures c.same-answer.ensures c.agree.ensures c.put-behind.ensures judged.0 judged.1,
-      stands_told a.c a.n bytes (state a.at.machine a.main.now a.swap.now) start.requires.0 c.answer-theirs.ensures.state c.answer-ours.auto.1.1.1.0 judged.0,
-    )
+    let judged = c.judged.ensures in record {
+      tells = call_told a.c a.n bytes a.number (both a.at.machine a.main.now a.swap.now a.at.plain a.memory.now a.rights.now)
+          c.answer-ours.ensures c.answer-theirs.ensures c.same-answer.ensures c.agree.ensures c.put-behind.ensures judged.0 judged.1;
+      stands = stands_told a.c a.n bytes (state a.at.machine a.main.now a.swap.now) c.requires.0 c.answer-theirs.ensures.state c.answer-ours.auto.memory judged.0;
+    }

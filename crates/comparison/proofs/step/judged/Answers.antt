@@ -2,7 +2,6 @@
 use native.Mathlib.Omega.{arith}
 use Rattle.text.proofs.Appending.{nothing}
 use Rattle.comparison.proofs.Called.{judged_alike, judged_differ}
-use borrow.Author.Rules.{rules}
 use Rattle.comparison.proofs.step.judged.Goals as goal
 
 pub returns-then-alike : goal.returns-then-alike

@@ -96,9 +96,9 @@ module _ (f : Flat) where
       pick true h Fault e = simp (h, e) refl
       pick true h (At i) e =
           rw (h, e)
-              (fetched_asked (demand_by f (page_of f.pcs.dpc) (plan f.gpr f.pcs.next (number 4 f.bytes f.pcs.dpc))) (obeyed i)
-              (obey_ends (allow f.rights) f.gpr f.bytes f.pcs (number 4 f.bytes i) (plan f.gpr f.pcs.next (number 4 f.bytes i)))
-              (rw (h, e) refl))
+          (fetched_asked (demand_by f (page_of f.pcs.dpc) (plan f.gpr f.pcs.next (number 4 f.bytes f.pcs.dpc))) (obeyed i)
+          (obey_ends (allow f.rights) f.gpr f.bytes f.pcs (number 4 f.bytes i) (plan f.gpr f.pcs.next (number 4 f.bytes i)))
+          (rw (h, e) refl))
 
 -- ---- a run
 pub order_length : (n : ℕ) (f : Flat)

@@ -1,5 +1,5 @@
 -- `run`: refused, or the definition's run.
-use mathlib.Core.Path.{sym, ◌∙◌}
+use mathlib.Core.Path.{refl, sym}
 use Rattle.plainmodel.specs.State.{plain_state}
 use Rattle.plainmachine.proofs.Outcomes.{run_refused}
 use borrow.Author.Rules.{rules}
@@ -7,9 +7,9 @@ use Rattle.plainmachine.proofs.run.Goals as goal
 
 pub run_granted-requires : goal.run_granted-requires
 run_granted-requires c =
-    sym c.run_verdict.ensures ∙ c.enum_told-1.given.1
+    sym c.in-Granted.ensures
 
 pub returns-in-Refused : goal.returns-in-Refused
 returns-in-Refused c =
-    let a = asked.before.before.before.before.args in
-    run_refused (plain_state a.m a.memory.now a.rights.now) _ _ c.run_verdict.ensures _ c.r-1.given.1
+    let a = c.args in
+    run_refused (plain_state a.m a.memory.now a.rights.now) _ _ c.in-Refused.ensures _ refl

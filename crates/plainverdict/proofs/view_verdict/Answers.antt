@@ -1,5 +1,5 @@
 -- `view_verdict`: refused on the machine, or by the page.
-use mathlib.Core.Path.{ap, ◌∙◌}
+use mathlib.Core.Path.{refl, ap, ◌∙◌}
 use Rattle.model.specs.Calls.{unless}
 use Rattle.model.specs.declared.Refusal.TheVariants.{Rights}
 use Rattle.model.specs.declared.Verdict.TheVariants.{Granted}
@@ -12,11 +12,11 @@ pub returns-in-Refused : goal.returns-in-Refused
 unfolding view_verdict
 returns-in-Refused c =
     let a = c.args in
-    still_refused a.m _ _ _ c.plain_verdict.ensures _ c.r-1.given.1 _
+    still_refused a.m _ _ _ c.in-Refused.ensures _ refl _
 
 pub returns-in-Granted : goal.returns-in-Granted
 unfolding view_verdict
 returns-in-Granted c =
     let a = c.args in
     c.unless.ensures ∙ ap (λ b. unless b Rights Granted) c.viewable.ensures
-    ∙ onward a.m _ _ _ c.plain_verdict.ensures c.enum_told-1.given.1 _
+    ∙ onward a.m _ _ _ c.in-Granted.ensures refl _

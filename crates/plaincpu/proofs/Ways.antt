@@ -11,7 +11,6 @@ use Rattle.model.specs.Choice.{if◌then◌else◌}
 use Rattle.model.specs.Pages.{page_of}
 use Rattle.model.specs.Attempt.{Width, byte, half, word, size}
 use Rattle.model.specs.Flat.{grants, allow}
-use Rattle.model.specs.declared.Access.{Access}
 use Rattle.model.specs.declared.Access.TheVariants as said
 use Rattle.laws.proofs.Choice.{clash}
 use Rattle.cpu.specs.declared.access.Reached.{Reached}

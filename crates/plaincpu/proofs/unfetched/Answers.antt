@@ -1,9 +1,8 @@
 -- `unfetched`: what the fetch comes to ends the attempt.
 use Rattle.cpu.proofs.Ways.{attempt_ended}
 use Rattle.plaincpu.proofs.Ways.{fetches_none}
-use borrow.Author.Rules.{rules}
 use Rattle.plaincpu.proofs.unfetched.Goals as goal
 
 pub returns : goal.returns
 returns c =
-    attempt_ended _ _ _ _ _ c.reach.ensures (fetches_none _ _ _ c.reach.ensures c.requires) _ c.loaded.ensures
+    λ gpr bytes. attempt_ended _ gpr bytes c.args.p _ c.reach.ensures (fetches_none _ _ _ c.reach.ensures c.requires) _ c.loaded.ensures

@@ -1,6 +1,5 @@
 -- `rights::grants`: bit 1, or bit 0.
 use Rattle.plaincpu.proofs.Ways.{grants_write, grants_read}
-use borrow.Author.Rules.{rules}
 use Rattle.plaincpu.proofs.rights.grants.Goals as goal
 
 pub returns-then-writing : goal.returns-then-writing

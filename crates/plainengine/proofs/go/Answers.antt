@@ -3,20 +3,12 @@
 use mathlib.Core.Path.{◌≡◌, refl}
 use native.Mathlib.Omega.{arith}
 use lib.ListN.{length}
-use Rattle.cpu.proofs.Finishing.{finished}
 use Rattle.plaincpu.specs.Sized.{Sized}
 use Rattle.plainengine.specs.Engine.{flat_of, Ran}
 use Rattle.plainengine.proofs.Running.{begun, run_out}
-use Rattle.plainengine.proofs.Walking.{sized_over, leg_on, leg_short, leg_trapped, leg_stopped, leg_missing}
+use Rattle.plainengine.proofs.Walking.{sized_over, leg_on, leg_short, leg_trapped, leg_stopped, leg_missing, goes_further}
 use borrow.Author.Rules.{rules}
 use Rattle.plainengine.proofs.go.Goals as goal
-
-add-finish : tie.Need-overflow-add-finish invariant-loop decreases-loop
-add-finish c =
-    let leg = c.before.before.before.before.before.before in
-    let inv = leg.before.before.before.before.loop.invariant in
-    let short = leg_short _ _ _ _ _ _ _ inv.0 _ _ _ leg.leg-from.ensures _ c.before.o.given.1 (λ z. z) in
-    omega (arith, short, leg.before.before.before.before.before.before.before.ranges.limit)
 
 pub loop-left-init : goal.loop-left-init
 loop-left-init c = (begun _ _, c.requires, refl)
@@ -26,18 +18,18 @@ leg_from-l-requires c = (c.loop-left.invariant.1, search rules)
 
 pub returns-in-Trapped : goal.returns-in-Trapped
 returns-in-Trapped c =
-    leg_trapped _ _ _ _ _ _ _ leg.before.before.before.before.loop.invariant.0 _ _ _ leg.leg-from.ensures _ _ c.o.given.1 _ c.finish.ensures
+    leg_trapped _ _ _ _ _ _ _ c.loop-left.invariant.0 _ _ _ c.leg_from-l.ensures _ _ c.in-Trapped.is _ c.finish.ensures
 
 pub returns-in-Stopped : goal.returns-in-Stopped
 returns-in-Stopped c =
-    leg_stopped _ _ _ _ _ _ _ c.loop-left.invariant.0 _ _ _ c.leg_from-l.ensures _ c.o-in-Stopped-1.given.1 _ c.finish-in-Stopped.ensures
+    leg_stopped _ _ _ _ _ _ _ c.loop-left.invariant.0 _ _ _ c.leg_from-l.ensures _ c.in-Stopped.is _ c.finish-in-Stopped.ensures
 
 pub returns-in-Missing : goal.returns-in-Missing
 returns-in-Missing c =
-    leg_missing _ _ _ _ _ _ _ c.loop-left.invariant.0 _ _ _ c.leg_from-l.ensures _ c.o-in-Missing-1.given.1 _ c.finish-in-Missing.ensures
+    leg_missing _ _ _ _ _ _ _ c.loop-left.invariant.0 _ _ _ c.leg_from-l.ensures _ c.in-Missing.is _ c.finish-in-Missing.ensures
 
 pub loop-left-smaller : goal.loop-left-smaller
-loop-left-smaller c = c.leg_from-l.ensures.between (finished c.leg_from-l.result.outcome c.in_default.keys4)
+loop-left-smaller c = c.leg_from-l.ensures.between (goes_further c.leg_from-l.result.outcome c.in_default.not-Trapped c.in_default.not-Missing c.in_default.not-Stopped)
 
 pub loop-left-preserved : goal.loop-left-preserved
 loop-left-preserved c =

@@ -1,15 +1,13 @@
 -- `walk` meets its contract: between two attempts the leg is `Walking`, and each outcome of the next attempt is one law. The measure: the
 -- instructions that are left.
 use mathlib.Core.Path.{◌≡◌, refl, sym, ap, ◌∙◌}
-use mathlib.Core.Logic.{⊎_elim}
 use native.Mathlib.Omega.{arith}
 use borrow.Author.Tests.{eqb-true}
-use lib.ListN.{length}
-use Rattle.cpu.proofs.Finishing.{unfinished}
 use Rattle.plaincpu.proofs.Ways.{fetches_on}
-use Rattle.plainengine.proofs.Walking.{Walking, started, left_between, moved, went_on, stored_on, once_more, left_with}
+use Rattle.plainengine.proofs.Walking.{started, left_between, moved, went_on, stored_on, once_more, left_with, unended}
 use borrow.Author.Rules.{rules}
 use Rattle.plainengine.proofs.walk.Goals as goal
+use Rattle.plainengine.proofs.walk.Goals.{else-loop-g-test, then-loop-g-test+then-left-eq0, in-Done, in-Wrote}
 
 pub loop-g-init : goal.loop-g-init
 loop-g-init c = let pre = c.requires in (started _ _ _ _ _ pre.0 pre.2, refl)
@@ -21,35 +19,32 @@ attempt-o-requires c =
 pub returns-in_default : goal.returns-in_default
 returns-in_default c =
     rw c.pause.ensures
-    (left_with _ _ _ _ _ _ _ _ _ loop.loop.invariant.0 _ _ _ c.attempt.ensures (unfinished c.attempt.result c.match.keys3))
+    (left_with _ _ _ _ _ _ _ _ _ c.loop-g.invariant.0 _ _ _ c.attempt-o.ensures
+    (unended c.attempt-o.result c.in_default.not-Done c.in_default.not-Wrote))
 
 pub loop-g-preserved : goal.loop-g-preserved
 loop-g-preserved c =
     let inv = c.loop-g.invariant in (
       once_more _ _ _ _ _ _ _ _ _ inv.0 _ _ _ c.attempt-o.ensures _
-          (⊎_elim
-          (λ h. went_on _ _ _ _ _ _ _ _ _ inv.0 _ _ _ c.attempt-o.ensures _ h.1.given.1 _ h.3)
-          (λ h. stored_on _ _ _ _ _ _ _ _ _ inv.0 _ _ _ c.attempt-o.ensures _ _ h.1.given.1 _ h.3)
-          c.match-o.branch)
+          (elim c.match-o.branch [
+            in-Done w ↦ went_on _ _ _ _ _ _ _ _ _ inv.0 _ _ _ w.in-Done.ensures _ refl _ w.pcs-is
+          | in-Wrote w ↦ stored_on _ _ _ _ _ _ _ _ _ inv.0 _ _ _ w.in-Wrote.ensures _ _ refl _ w.pcs-is
+          ])
           c.if-left-eq0.false (search rules),
       search rules,
     )
-
-pub shape_of-m : goal.shape_of-m
-shape_of-m c =
-    ⊎_elim (λ h. ap length h.2 ∙ c.loop-g.invariant.1) (λ h. ap length h.9 ∙ h.4.given ∙ c.loop-g.invariant.1) c.loop-g-test.branch
 
 pub returns : goal.returns
 returns c =
     let inv = c.loop-g.invariant.0 in
     rw c.pause-2.ensures
-    (⊎_elim
-    (λ h. left_between _ _ _ _ _ _ _ _ _ inv.way
-    (moved _ _ _ _ _ _ _ _ _ inv c.requires.1 _ c.on_page.ensures h.0.left) _ h.1 _ h.2 _ h.3 _ h.4)
-    (λ h. left_between _ _ _ _ _ _ _ _ _
-    (⊎_elim
-    (λ k. went_on _ _ _ _ _ _ _ _ _ inv _ _ _ h.3.ensures _ k.1.given.1 _ k.3)
-    (λ k. stored_on _ _ _ _ _ _ _ _ _ inv _ _ _ h.3.ensures _ _ k.1.given.1 _ k.3)
-    h.6.came)
-    (omega (arith, inv.way.few, inv.more)) _ h.8 _ h.9 _ h.10 _ h.11)
-    c.loop-g-test.branch)
+    (elim c.loop-g-test.branch [
+      else-loop-g-test w ↦ left_between _ _ _ _ _ _ _ _ _ inv.way
+          (moved _ _ _ _ _ _ _ _ _ inv c.requires.1 _ c.on_page.ensures w.loop-g-test.false) _ w.g-is _ w.m-is _ w.pcs-is _ w.left-is
+    | then-loop-g-test+then-left-eq0 w ↦ left_between _ _ _ _ _ _ _ _ _
+          (elim w.match-o.branch [
+            in-Done k ↦ went_on _ _ _ _ _ _ _ _ _ inv _ _ _ k.in-Done.ensures _ refl _ k.pcs-is
+          | in-Wrote k ↦ stored_on _ _ _ _ _ _ _ _ _ inv _ _ _ k.in-Wrote.ensures _ _ refl _ k.pcs-is
+          ])
+          (omega (arith, inv.way.few, inv.more)) _ w.g-is _ w.m-is _ w.pcs-is _ w.left-is
+    ])

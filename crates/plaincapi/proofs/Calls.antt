@@ -1,6 +1,6 @@
 -- The ways out of each exported call, over plain variables: a slice of another length than said, or plainmodel's own outcome.
 use mathlib.Core.Path.{◌≡◌, sym, ap, ◌∙◌}
-use mathlib.Core.List.{List, [], ◌∷◌}
+use mathlib.Core.List.{List}
 use Prim.Native.Nat.{ℕ}
 use lib.ListN.{length}
 use borrow.Author.Tests.{eq-eqb, ne_eqb}
@@ -12,7 +12,7 @@ use Rattle.model.specs.declared.Verdict.{Verdict}
 use Rattle.model.specs.declared.Verdict.TheVariants.{Granted, Refused}
 use Rattle.plainmodel.specs.State.{plain_state}
 use Rattle.plainmodel.specs.Calls.{plain_numbers, RunOutcome, run_verdict, run_outcome, run_call, read_call, write_call, reply_call, with_register}
-use Rattle.plainmodel.specs.Load.{LoadOutcome, load_call}
+use Rattle.plainmodel.specs.Load.{load_call}
 use Rattle.plainmodel.specs.declared.Plain.{Plain}
 use Rattle.plainmodel.specs.declared.PlainAnswer.{PlainAnswer}
 use Rattle.plainmodel.specs.declared.PlainAnswer.TheVariants.{NotRun}

@@ -1,18 +1,18 @@
 -- The words and the record say the same: a record read from its words and written back is those words, and the other way round. The
 -- record is its three parts, each put in its place.
 use mathlib.Core.Path.{◌≡◌, refl, sym, ap, ap₂, ◌∙◌}
-use mathlib.Core.List.{List, [], ◌∷◌, ◌++◌, append-nil}
-use Prim.Native.Nat.{ℕ, ◌+◌, ◌-◌, ◌≤◌, ◌<◌}
+use mathlib.Core.List.{List, [], ◌++◌, append-nil}
+use Prim.Native.Nat.{ℕ, ◌+◌, ◌-◌, ◌<◌}
 use native.Mathlib.Omega.{arith}
-use lib.ListN.{length, get_or, set, take, drop, length-append, length-drop, length-set, drop_of_length-le}
-use lib.Seq.{take-add, take_all, set-append_left, set_out, get_or-append-add}
+use lib.ListN.{length, get_or, set, take, drop, length-append, length-drop, drop_of_length-le}
+use lib.Seq.{take-add, take_all, set-append_left, get_or-append-add}
 use Rattle.laws.specs.Over.{over}
 use Rattle.record.specs.Words.{part}
 use Rattle.record.proofs.Parts.{length_part, set-behind, over_next, part_next}
-use Rattle.record.proofs.Words.{each, each_part}
+use Rattle.record.proofs.Words.{each_part}
 use Rattle.plainmodel.specs.Calls.{with_register}
 use Rattle.plainmodel.specs.declared.Plain.{Plain}
-use Rattle.plainrecord.specs.Words.{gpr_at, dpc_at, record_length, head_of, tail_of, plain_of, words_of, with_word}
+use Rattle.plainrecord.specs.Words.{gpr_at, dpc_at, record_length, head_of, tail_of, plain_of, words_of}
 
 split : (l : List ℕ) → length l ≡ record_length → take gpr_at l ++ part gpr_at 32 l ++ part dpc_at 2 l ≡ l
 split l e = ap (λ z. z ++ part dpc_at 2 l) (sym (take-add gpr_at 32 l)) ∙ sym (take-add dpc_at 2 l) ∙ take_all record_length l (omega arith)

@@ -1,5 +1,5 @@
 -- `brenwythal_run`: a record or an answer of another length, what the run leaves, or a refusal.
-use mathlib.Core.Path.{sym, ap, ◌∙◌}
+use mathlib.Core.Path.{refl, sym, ap, ◌∙◌}
 use Rattle.model.specs.State.{state}
 use Rattle.model.specs.Calls.{run_verdict}
 use Rattle.capi.proofs.Calls.{run_short, run_narrow, run_not, run_whole, run_handed}
@@ -14,9 +14,9 @@ returns-then-answer-ne5 c = run_narrow _ _ _ _ _ (search rules) (search rules)
 
 pub run_granted-r-requires : goal.run_granted-r-requires
 run_granted-r-requires c =
-    let a = read.before.before.before.before.before.before.before.before.args in
+    let a = c.args in
     ap (λ m. run_verdict (state m a.main.now a.swap.now) a.limit) (c.machine_of-in-Granted.ensures ∙ sym c.machine_of.ensures)
-    ∙ sym c.run_verdict.ensures ∙ c.enum_told-1.given.1
+    ∙ sym c.in-Granted.ensures
 
 pub put_machine-requires : goal.put_machine-requires
 put_machine-requires c =
@@ -33,4 +33,4 @@ returns-in-Granted c =
 
 pub returns-in-Refused : goal.returns-in-Refused
 returns-in-Refused c =
-    run_not _ _ _ _ _ (search rules) (search rules) _ c.machine_of.ensures _ c.run_verdict.ensures _ c.r-1.given.1 _ _ c.put_run-in-Refused.ensures
+    run_not _ _ _ _ _ (search rules) (search rules) _ c.machine_of.ensures _ c.in-Refused.ensures _ refl _ _ c.put_run-in-Refused.ensures

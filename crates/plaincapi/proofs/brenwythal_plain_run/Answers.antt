@@ -1,5 +1,5 @@
 -- `brenwythal_plain_run`: a record or an answer of another length, what the run leaves, or a refusal.
-use mathlib.Core.Path.{sym, ap, ◌∙◌}
+use mathlib.Core.Path.{refl, sym, ap, ◌∙◌}
 use Rattle.plainmodel.specs.State.{plain_state}
 use Rattle.plainmodel.specs.Calls.{run_verdict}
 use Rattle.plaincapi.proofs.Calls.{run_short, run_narrow, run_not, run_whole, run_handed}
@@ -14,9 +14,9 @@ returns-then-answer-ne3 c = run_narrow _ _ _ _ _ (search rules) (search rules)
 
 pub run_granted-r-requires : goal.run_granted-r-requires
 run_granted-r-requires c =
-    let a = read.before.before.before.before.before.before.before.before.args in
+    let a = c.args in
     ap (λ m. run_verdict (plain_state m a.memory.now a.rights.now) a.limit) (c.plain_of-in-Granted.ensures ∙ sym c.plain_of.ensures)
-    ∙ sym c.run_verdict.ensures ∙ c.enum_told-1.given.1
+    ∙ sym c.in-Granted.ensures
 
 pub put_plain-requires : goal.put_plain-requires
 put_plain-requires c =
@@ -33,4 +33,4 @@ returns-in-Granted c =
 
 pub returns-in-Refused : goal.returns-in-Refused
 returns-in-Refused c =
-    run_not _ _ _ _ _ (search rules) (search rules) _ c.plain_of.ensures _ c.run_verdict.ensures _ c.r-1.given.1 _ _ c.put_run-in-Refused.ensures
+    run_not _ _ _ _ _ (search rules) (search rules) _ c.plain_of.ensures _ c.in-Refused.ensures _ refl _ _ c.put_run-in-Refused.ensures

@@ -1,12 +1,9 @@
 -- `go` meets its contract: between two legs the run under way is `Ran`, and each outcome of the next leg is one law. The measure: the
 -- instructions that are left.
-use mathlib.Core.Path.{◌≡◌, refl}
+use mathlib.Core.Path.{refl}
 use native.Mathlib.Omega.{arith}
-use lib.ListN.{length}
-use Rattle.plaincpu.specs.Sized.{Sized}
-use Rattle.plainengine.specs.Engine.{flat_of, Ran}
 use Rattle.plainengine.proofs.Running.{begun, run_out}
-use Rattle.plainengine.proofs.Walking.{sized_over, leg_on, leg_short, leg_trapped, leg_stopped, leg_missing, goes_further}
+use Rattle.plainengine.proofs.Walking.{sized_over, leg_on, leg_trapped, leg_stopped, leg_missing, goes_further}
 use borrow.Author.Rules.{rules}
 use Rattle.plainengine.proofs.go.Goals as goal
 

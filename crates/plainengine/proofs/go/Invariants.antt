@@ -1,13 +1,9 @@
 -- `go` meets its contract: between two legs the run under way is `Ran`, and each outcome of the next leg is one law. The measure: the
 -- instructions that are left.
-use mathlib.Core.Path.{◌≡◌, refl}
-use native.Mathlib.Omega.{arith}
+use mathlib.Core.Path.{◌≡◌}
 use lib.ListN.{length}
-use Rattle.cpu.proofs.Finishing.{finished}
 use Rattle.plaincpu.specs.Sized.{Sized}
 use Rattle.plainengine.specs.Engine.{flat_of, Ran}
-use Rattle.plainengine.proofs.Running.{begun, run_out}
-use Rattle.plainengine.proofs.Walking.{sized_over, leg_on, leg_short, leg_trapped, leg_stopped, leg_missing}
 use Rattle.plainengine.proofs.go.Given as goal
 
 abbrev pub invariant-loop-left : goal.invariant-loop-left

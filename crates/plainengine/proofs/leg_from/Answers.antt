@@ -4,7 +4,6 @@ use Rattle.cpu.specs.Finished.{Finished}
 use Rattle.cpu.proofs.Finishing.{no_fetch}
 use Rattle.plaincpu.proofs.Ways.{fetches_none}
 use Rattle.plainengine.proofs.Walking.{started, left_with}
-use borrow.Author.Rules.{rules}
 use Rattle.plainengine.proofs.leg_from.Goals as goal
 
 pub unfetched-requires : goal.unfetched-requires

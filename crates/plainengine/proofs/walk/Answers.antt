@@ -1,6 +1,6 @@
 -- `walk` meets its contract: between two attempts the leg is `Walking`, and each outcome of the next attempt is one law. The measure: the
 -- instructions that are left.
-use mathlib.Core.Path.{◌≡◌, refl, sym, ap, ◌∙◌}
+use mathlib.Core.Path.{refl, sym, ◌∙◌}
 use native.Mathlib.Omega.{arith}
 use borrow.Author.Tests.{eqb-true}
 use Rattle.plaincpu.proofs.Ways.{fetches_on}

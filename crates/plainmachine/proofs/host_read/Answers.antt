@@ -3,7 +3,6 @@ use mathlib.Core.Path.{refl}
 use Rattle.plainmodel.specs.State.{plain_state}
 use Rattle.plainmachine.proofs.Leans.{host_leans}
 use Rattle.plainmachine.proofs.Outcomes.{read_refused, read_done}
-use borrow.Author.Rules.{rules}
 use Rattle.plainmachine.proofs.host_read.Goals as goal
 
 pub read_bytes-requires : goal.read_bytes-requires

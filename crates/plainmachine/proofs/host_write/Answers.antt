@@ -3,7 +3,6 @@ use mathlib.Core.Path.{refl}
 use Rattle.plainmodel.specs.State.{plain_state}
 use Rattle.plainmachine.proofs.Leans.{host_leans}
 use Rattle.plainmachine.proofs.Outcomes.{write_refused, write_done}
-use borrow.Author.Rules.{rules}
 use Rattle.plainmachine.proofs.host_write.Goals as goal
 
 pub write_bytes-requires : goal.write_bytes-requires

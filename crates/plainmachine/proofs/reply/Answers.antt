@@ -3,7 +3,6 @@ use mathlib.Core.Path.{refl}
 use native.Mathlib.Omega.{arith}
 use Rattle.laws.proofs.Granted.{reply_leans}
 use Rattle.plainmachine.proofs.Outcomes.{reply_refused, reply_done}
-use borrow.Author.Rules.{rules}
 use Rattle.plainmachine.proofs.reply.Goals as goal
 
 pub bounds-replied-i : goal.bounds-replied-i

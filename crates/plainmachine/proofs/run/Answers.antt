@@ -2,7 +2,6 @@
 use mathlib.Core.Path.{refl, sym}
 use Rattle.plainmodel.specs.State.{plain_state}
 use Rattle.plainmachine.proofs.Outcomes.{run_refused}
-use borrow.Author.Rules.{rules}
 use Rattle.plainmachine.proofs.run.Goals as goal
 
 pub run_granted-requires : goal.run_granted-requires

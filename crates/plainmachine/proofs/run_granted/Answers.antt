@@ -3,7 +3,6 @@ use mathlib.Core.Path.{refl, sym}
 use Rattle.plainmodel.specs.State.{plain_state}
 use Rattle.plainmachine.proofs.Leans.{run_leans}
 use Rattle.plainmachine.proofs.Outcomes.{run_done}
-use borrow.Author.Rules.{rules}
 use Rattle.plainmachine.proofs.run_granted.Goals as goal
 
 pub go-e-requires : goal.go-e-requires

@@ -1,6 +1,5 @@
 -- `view_answer`: the verdict's number.
 use Rattle.plainmachine.proofs.Outcomes.{view_number}
-use borrow.Author.Rules.{rules}
 use Rattle.plainmachine.proofs.view_answer.Goals as goal
 
 pub returns : goal.returns

@@ -3,7 +3,6 @@ use mathlib.Core.Path.{ap, ◌∙◌}
 use Rattle.laws.specs.Over.{over}
 use Rattle.plainrecord.specs.Words.{gpr_at, dpc_at}
 use Rattle.plainrecord.proofs.Words.{laid}
-use borrow.Author.Rules.{rules}
 use Rattle.plainrecord.proofs.lay.Goals as goal
 
 pub returns : goal.returns

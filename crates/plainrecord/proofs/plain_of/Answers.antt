@@ -1,6 +1,5 @@
 -- `plain_of`: each word in its place.
 use Rattle.plainrecord.specs.Words.{plain_of}
-use borrow.Author.Rules.{rules}
 use Rattle.plainrecord.proofs.plain_of.Goals as goal
 
 pub returns : goal.returns

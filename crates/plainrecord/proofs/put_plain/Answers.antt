@@ -1,6 +1,5 @@
 -- `put_plain`: the parts are those of its words.
 use Rattle.plainrecord.specs.Words.{words_of}
-use borrow.Author.Rules.{rules}
 use Rattle.plainrecord.proofs.put_plain.Goals as goal
 
 pub returns : goal.returns

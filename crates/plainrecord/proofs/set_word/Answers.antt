@@ -2,7 +2,6 @@
 use mathlib.Core.Path.{ap, ◌∙◌}
 use lib.ListN.{set}
 use Rattle.plainrecord.specs.Words.{plain_of, with_word}
-use borrow.Author.Rules.{rules}
 use Rattle.plainrecord.proofs.set_word.Goals as goal
 
 pub returns : goal.returns

@@ -2,7 +2,6 @@
 use mathlib.Core.Path.{refl, ◌∙◌}
 use Rattle.plainmodel.specs.Calls.{host_verdict}
 use Rattle.plainverdict.proofs.Verdicts.{still_refused, onward, few_pages}
-use borrow.Author.Rules.{rules}
 use Rattle.plainverdict.proofs.host_verdict.Goals as goal
 
 pub transfer_verdict-requires : goal.transfer_verdict-requires

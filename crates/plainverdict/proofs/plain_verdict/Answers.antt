@@ -2,7 +2,6 @@
 use mathlib.Core.Path.{ap, ◌∙◌}
 use mathlib.Core.Bool.{not}
 use Rattle.plainverdict.proofs.Verdicts.{bound, by_sound}
-use borrow.Author.Rules.{rules}
 use Rattle.plainverdict.proofs.plain_verdict.Goals as goal
 
 pub returns-then-not-fits : goal.returns-then-not-fits

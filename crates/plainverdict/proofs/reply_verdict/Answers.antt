@@ -1,6 +1,5 @@
 -- `reply_verdict`: the test of the register.
 use Rattle.model.specs.Calls.{reply_verdict}
-use borrow.Author.Rules.{rules}
 use Rattle.plainverdict.proofs.reply_verdict.Goals as goal
 
 pub returns : goal.returns

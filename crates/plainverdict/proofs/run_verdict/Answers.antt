@@ -3,7 +3,6 @@ use mathlib.Core.Path.{refl}
 use native.Mathlib.Omega.{arith}
 use Rattle.plainmodel.specs.Calls.{run_verdict}
 use Rattle.plainverdict.proofs.Verdicts.{still_refused, run_short, run_long}
-use borrow.Author.Rules.{rules}
 use Rattle.plainverdict.proofs.run_verdict.Goals as goal
 
 pub returns-then-limit-le1000000 : goal.returns-then-limit-le1000000

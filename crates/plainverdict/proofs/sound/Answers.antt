@@ -1,7 +1,6 @@
 -- `sound`: GPR 0 is not 0, or the rights decide.
 use native.Mathlib.Omega.{arith}
 use Rattle.plainverdict.proofs.Verdicts.{zero_wrong, by_rights_right}
-use borrow.Author.Rules.{rules}
 use Rattle.plainverdict.proofs.sound.Goals as goal
 
 pub returns-then-zero-ne0 : goal.returns-then-zero-ne0

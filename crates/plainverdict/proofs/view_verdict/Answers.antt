@@ -5,7 +5,6 @@ use Rattle.model.specs.declared.Refusal.TheVariants.{Rights}
 use Rattle.model.specs.declared.Verdict.TheVariants.{Granted}
 use Rattle.plainmodel.specs.Calls.{view_verdict}
 use Rattle.plainverdict.proofs.Verdicts.{still_refused, onward}
-use borrow.Author.Rules.{rules}
 use Rattle.plainverdict.proofs.view_verdict.Goals as goal
 
 pub returns-in-Refused : goal.returns-in-Refused

@@ -1,12 +1,11 @@
 -- `answer_sizes::put_assembled`: the length of what was assembled, or the line and the column.
 use Rattle.capi.proofs.Numbers.{assembled, not_assembled}
-use borrow.Author.Rules.{rules}
 use Rattle.capi.proofs.answer_sizes.put_assembled.Goals as goal
 
 pub returns-in-Assembled : goal.returns-in-Assembled
-returns-in-Assembled c = assembled _ _ c.a-1.given.1 _ c.put_three.ensures
+returns-in-Assembled c = assembled _ _ c.in-Assembled.is _ c.put_three.ensures
 
 pub returns-in-NotAssembled : goal.returns-in-NotAssembled
 returns-in-NotAssembled c =
-    not_assembled _ _ _ _ c.a-in-NotAssembled-1.given.1 _ c.refusal_number.ensures _
+    not_assembled _ _ _ _ c.in-NotAssembled.is _ c.refusal_number.ensures _
     c.put_three-in-NotAssembled.ensures

@@ -1,10 +1,9 @@
 -- `answer_words::put_run`: the five words of a run, or five zeros.
 use Rattle.capi.proofs.Numbers.{ran, not_run}
-use borrow.Author.Rules.{rules}
 use Rattle.capi.proofs.answer_words.put_run.Goals as goal
 
 pub returns-in-Ran : goal.returns-in-Ran
-returns-in-Ran c = ran _ _ _ _ _ c.a-1.given.1 _ c.stop_number.ensures _ c.stop_detail.ensures _ c.put_five.ensures
+returns-in-Ran c = ran _ _ _ _ _ c.in-Ran.is _ c.stop_number.ensures _ c.stop_detail.ensures _ c.put_five.ensures
 
 pub returns-in-NotRun : goal.returns-in-NotRun
-returns-in-NotRun c = not_run _ _ c.a-in-NotRun-1.given.1 _ c.refusal_number.ensures _ c.put_five-in-NotRun.ensures
+returns-in-NotRun c = not_run _ _ c.in-NotRun.is _ c.refusal_number.ensures _ c.put_five-in-NotRun.ensures

@@ -1,7 +1,6 @@
 -- `transfer::read_bytes`: no byte, or the part of the memory.
 use native.Mathlib.Omega.{arith}
 use Rattle.plainmachine.proofs.Parts.{read_none, read_part}
-use borrow.Author.Rules.{rules}
 use Rattle.plainmachine.proofs.transfer.read_bytes.Goals as goal
 
 pub returns-then-into-eq0 : goal.returns-then-into-eq0

@@ -1,7 +1,6 @@
 -- `transfer::write_bytes`: no byte, or the part of the memory.
 use native.Mathlib.Omega.{arith}
 use Rattle.plainmachine.proofs.Parts.{written_none, written_part}
-use borrow.Author.Rules.{rules}
 use Rattle.plainmachine.proofs.transfer.write_bytes.Goals as goal
 
 pub returns-then-from-eq0 : goal.returns-then-from-eq0

@@ -1,6 +1,5 @@
 -- `permission::viewable`: the right to read.
 use Rattle.plainmodel.specs.Calls.{viewable}
-use borrow.Author.Rules.{rules}
 use Rattle.plainverdict.proofs.permission.viewable.Goals as goal
 
 pub returns : goal.returns

@@ -27,8 +27,8 @@ loop-g-preserved c =
     let inv = c.loop-g.invariant in (
       once_more _ _ _ _ _ _ _ _ _ inv.0 _ _ _ c.attempt-o.ensures _
           (elim c.match-o.branch [
-            in-Done w ↦ went_on _ _ _ _ _ _ _ _ _ inv.0 _ _ _ w.in-Done.ensures _ refl _ w.pcs-is
-          | in-Wrote w ↦ stored_on _ _ _ _ _ _ _ _ _ inv.0 _ _ _ w.in-Wrote.ensures _ _ refl _ w.pcs-is
+            | in-Done w ↦ went_on _ _ _ _ _ _ _ _ _ inv.0 _ _ _ w.in-Done.ensures _ refl _ w.pcs-is
+            | in-Wrote w ↦ stored_on _ _ _ _ _ _ _ _ _ inv.0 _ _ _ w.in-Wrote.ensures _ _ refl _ w.pcs-is
           ])
           c.if-left-eq0.false (search rules),
       search rules,
@@ -39,12 +39,12 @@ returns c =
     let inv = c.loop-g.invariant.0 in
     rw c.pause-2.ensures
     (elim c.loop-g-test.branch [
-      else-loop-g-test w ↦ left_between _ _ _ _ _ _ _ _ _ inv.way
+      | else-loop-g-test w ↦ left_between _ _ _ _ _ _ _ _ _ inv.way
           (moved _ _ _ _ _ _ _ _ _ inv c.requires.1 _ c.on_page.ensures w.loop-g-test.false) _ w.g-is _ w.m-is _ w.pcs-is _ w.left-is
-    | then-loop-g-test+then-left-eq0 w ↦ left_between _ _ _ _ _ _ _ _ _
+      | then-loop-g-test+then-left-eq0 w ↦ left_between _ _ _ _ _ _ _ _ _
           (elim w.match-o.branch [
-            in-Done k ↦ went_on _ _ _ _ _ _ _ _ _ inv _ _ _ k.in-Done.ensures _ refl _ k.pcs-is
-          | in-Wrote k ↦ stored_on _ _ _ _ _ _ _ _ _ inv _ _ _ k.in-Wrote.ensures _ _ refl _ k.pcs-is
+            | in-Done k ↦ went_on _ _ _ _ _ _ _ _ _ inv _ _ _ k.in-Done.ensures _ refl _ k.pcs-is
+            | in-Wrote k ↦ stored_on _ _ _ _ _ _ _ _ _ inv _ _ _ k.in-Wrote.ensures _ _ refl _ k.pcs-is
           ])
           (omega (arith, inv.way.few, inv.more)) _ w.g-is _ w.m-is _ w.pcs-is _ w.left-is
     ])

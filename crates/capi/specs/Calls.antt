@@ -1,7 +1,6 @@
 -- What each exported call leaves: the number that it returns and every lent slice afterwards, by the model's own definition of the
 -- call. A record, an answer or a view's buffer of another length than said is refused 1, and nothing changes.
-use Rattle.std.specs.Prelude.{◌&&◌, List, [], ◌∷◌, ℕ, eqb, length}
-use Rattle.model.specs.Choice.{if◌then◌else◌}
+use Rattle.std.specs.Prelude.{◌&&◌, List, [], ◌∷◌, ℕ, eqb, length, if◌then◌else◌}
 use Rattle.model.specs.Pages.{virtual}
 use Rattle.model.specs.State.{State, memory, state}
 use Rattle.model.specs.Answers.{refusal_number, RunNumbers}

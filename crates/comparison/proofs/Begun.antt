@@ -8,7 +8,7 @@ use native.Mathlib.Omega.{arith}
 use lib.Dec.{leb}
 use lib.ListN.{length}
 use borrow.Author.Tests.{leb-true}
-use Rattle.model.specs.Choice.{if◌then◌else◌}
+use Rattle.std.specs.Prelude.{if◌then◌else◌}
 use Rattle.model.specs.State.{Memory, State}
 use Rattle.model.specs.Answers.{refusal_number, VerdictNumbers, verdict_numbers, ImageNumbers, image_numbers}
 use Rattle.model.specs.Calls.{unless, StateOutcome}

@@ -7,7 +7,7 @@ use Prim.Native.Nat.{ℕ, suc, ◌*◌}
 use lib.Dec.{eqb}
 use lib.ListN.{length, drop, length-replicate}
 use borrow.Author.Tests.{eq-eqb, eqb-true}
-use Rattle.model.specs.Choice.{if◌then◌else◌}
+use Rattle.std.specs.Prelude.{if◌then◌else◌}
 use Rattle.model.specs.Bytes.{same}
 use Rattle.model.specs.State.{Memory}
 use Rattle.model.specs.Pages.{virtual}

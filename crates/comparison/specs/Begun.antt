@@ -1,6 +1,5 @@
 -- The beginning: the image is read, and loaded into both machines.
-use Rattle.std.specs.Prelude.{List, ℕ, eqb}
-use Rattle.model.specs.Choice.{if◌then◌else◌}
+use Rattle.std.specs.Prelude.{List, ℕ, eqb, if◌then◌else◌}
 use Rattle.model.specs.State.{Memory}
 use Rattle.model.specs.Answers.{ImageNumbers}
 use Rattle.model.specs.Calls.{StateOutcome}

@@ -1,6 +1,5 @@
 -- The program `compare`: what it writes for an image, a number of main pages and a script.
-use Rattle.std.specs.Prelude.{Bool, true, ◌≡◌, List, [], ◌++◌, ℕ, ◌*◌, replicate}
-use Rattle.model.specs.Choice.{if◌then◌else◌}
+use Rattle.std.specs.Prelude.{Bool, true, ◌≡◌, List, [], ◌++◌, ℕ, ◌*◌, replicate, if◌then◌else◌}
 use Rattle.model.specs.State.{memory}
 use Rattle.model.specs.Answers.{refusal_number}
 use Rattle.model.specs.Image.{ptl_of}

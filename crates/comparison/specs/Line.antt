@@ -1,6 +1,5 @@
 -- What a line makes of what stands: each call is made on both machines, and they are compared.
-use Rattle.std.specs.Prelude.{◌&&◌, List, ◌++◌, ℕ, drop}
-use Rattle.model.specs.Choice.{if◌then◌else◌}
+use Rattle.std.specs.Prelude.{◌&&◌, List, ◌++◌, ℕ, drop, if◌then◌else◌}
 use Rattle.model.specs.Bytes.{same}
 use Rattle.text.specs.Reading.{bytes_of}
 use Rattle.answerlines.specs.Lines.{bad_text}

@@ -1,6 +1,5 @@
 // One line of a script: the call is made on both machines, and they are compared.
-ghost use Rattle.std.specs.Prelude.{◌≡◌, [], ◌+◌, ◌/◌, ◌≤◌, length};
-ghost use Rattle.model.specs.Choice.{if◌then◌else◌};
+ghost use Rattle.std.specs.Prelude.{◌≡◌, [], ◌+◌, ◌/◌, ◌≤◌, length, if◌then◌else◌};
 ghost use Rattle.model.specs.State.{state};
 ghost use Rattle.text.specs.Text.{Appended};
 ghost use Rattle.text.specs.Reading.{bytes_of};

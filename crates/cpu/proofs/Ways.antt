@@ -9,7 +9,7 @@ use native.Mathlib.Omega.{arith}
 use types.Run.{OneOf}
 use borrow.Author.Tests.{eq-eqb, ne_eqb}
 use lib.ListN.{length, set}
-use Rattle.model.specs.Choice.{if◌then◌else◌}
+use Rattle.std.specs.Prelude.{if◌then◌else◌}
 use Rattle.model.specs.Words.{aligned, extend}
 use Rattle.model.specs.Bytes.{number}
 use Rattle.model.specs.Bytes as model

@@ -1,7 +1,6 @@
 -- What an access comes to before anything is read or written, on any memory, and what follows from it: the outcome of a load or
 -- store, the load or store itself, and the attempt that goes on from its place.
-use Rattle.std.specs.Prelude.{◌≡◌, Bool, List, ℕ, ◌+◌, ◌*◌, ◌≤◌}
-use Rattle.model.specs.Choice.{if◌then◌else◌}
+use Rattle.std.specs.Prelude.{◌≡◌, Bool, List, ℕ, ◌+◌, ◌*◌, ◌≤◌, if◌then◌else◌}
 use Rattle.model.specs.Words.{aligned, extend}
 use Rattle.model.specs.Bytes.{number}
 use Rattle.model.specs.Bytes as bytes

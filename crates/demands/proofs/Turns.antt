@@ -6,7 +6,7 @@ use mathlib.Core.List.{List, [], ◌∷◌, nil-subset, cons-subset}
 use Prim.Native.Nat.{ℕ, zero, suc, ◌+◌}
 use native.Mathlib.Omega.{arith}
 use lib.ListN.{length}
-use Rattle.model.specs.Choice.{if◌then◌else◌}
+use Rattle.std.specs.Prelude.{if◌then◌else◌}
 use Rattle.model.specs.Words.{aligned}
 use Rattle.model.specs.Pages.{page_of}
 use Rattle.model.specs.Frames.{resident}

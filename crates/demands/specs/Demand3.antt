@@ -1,8 +1,7 @@
 -- Demand 3 as statements; proofs/Demand3 ends in the theorem `demand_3`. "From a fresh machine with a frames, over any series of run,
 -- host and reply calls, the pages loaded are counted truly and are at most a times the loads of any other schedule for the same
 -- instructions in the same order." What a schedule is stands in Schedule of bound, what an instruction needs in Order of the model.
-use Rattle.std.specs.Prelude.{◌≡◌, Bool, false, ◌&&◌, List, [], ◌∷◌, ℕ, ◌+◌, ◌-◌, ◌*◌, ◌≤◌, leb, length}
-use Rattle.model.specs.Choice.{if◌then◌else◌}
+use Rattle.std.specs.Prelude.{◌≡◌, Bool, false, ◌&&◌, List, [], ◌∷◌, ℕ, ◌+◌, ◌-◌, ◌*◌, ◌≤◌, leb, length, if◌then◌else◌}
 use Rattle.model.specs.Words.{aligned}
 use Rattle.model.specs.Frames.{empty_book}
 use Rattle.model.specs.State.{State}

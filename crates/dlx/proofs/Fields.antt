@@ -1,6 +1,6 @@
 -- The register that a plan writes is one of GPR 0 to 31.
 use Rattle.std.proofs.Common.{◌≡◌, ℕ, ◌%◌, ◌<◌, Bool, true, false, ltb, List, refl, ap, ◌∙◌, mod-lt, arith, ltb-true, lt-ltb}
-use Rattle.model.specs.Choice.{if◌then◌else◌}
+use Rattle.std.specs.Prelude.{if◌then◌else◌}
 use Rattle.model.specs.Instruction.{register, immediate, plan}
 use Rattle.model.specs.declared.Plan.{Plan}
 use Rattle.dlx.specs.Registers.{register_of}

@@ -1,6 +1,5 @@
 // The tables of "Instructions": what an instruction word asks for.
-ghost use Rattle.std.specs.Prelude.{◌≡◌, ◌<◌};
-ghost use Rattle.model.specs.Choice.{if◌then◌else◌};
+ghost use Rattle.std.specs.Prelude.{◌≡◌, ◌<◌, if◌then◌else◌};
 ghost use Rattle.model.specs.Words.{plus};
 ghost use Rattle.model.specs.Instruction as model;
 ghost use Rattle.model.specs.declared.Plan.TheVariants.{LoadByte, LoadHalf, LoadWord, StoreByte, StoreHalf, StoreWord};

@@ -8,7 +8,8 @@ use native.Mathlib.Omega.{arith}
 use lib.Dec.{eqb, leb, ltb}
 use lib.ListN.{length, length-append}
 use borrow.Author.Tests.{leb-true, leb-false, ltb-true, ltb-false}
-use Rattle.model.specs.Choice.{if◌then◌else◌, passes}
+use Rattle.model.specs.Choice.{passes}
+use Rattle.std.specs.Prelude.{if◌then◌else◌}
 use Rattle.model.specs.Console.{digits}
 use Rattle.laws.proofs.Choice.{and_left, and_right, chosen}
 use Rattle.text.proofs.Digits.{length_digits}

@@ -7,7 +7,7 @@ use native.Mathlib.Nat.{not-suc-le-zero, le_trans}
 use native.Mathlib.Omega.{arith}
 use lib.Dec.{eqb}
 use lib.ListN.{length}
-use Rattle.model.specs.Choice.{if◌then◌else◌}
+use Rattle.std.specs.Prelude.{if◌then◌else◌}
 use Rattle.model.specs.declared.Refusal.{Refusal}
 use Rattle.notation.specs.Sums.{byte_at, skipped, and_then, joined, Goal, term, terms, whole, is_minus, start_of, negated, closed, factor, more, read_by, read_in, size, read_at, term_at, sum_at}
 use Rattle.notation.specs.declared.Parsed.{Parsed}

@@ -1,6 +1,5 @@
 -- Where a byte of the flat memory is, "as its entry says", and what code that goes there needs of a machine.
-use Rattle.std.specs.Prelude.{List, ℕ}
-use Rattle.model.specs.Choice.{if◌then◌else◌}
+use Rattle.std.specs.Prelude.{List, ℕ, if◌then◌else◌}
 use Rattle.model.specs.Pages.{page_of, offset, main_at, swap_of, swap_at}
 use Rattle.model.specs.Table.{entry, ppx, valid}
 use Rattle.model.specs.declared.Shape.{Shape}

@@ -1,6 +1,5 @@
 -- The sections of a file, by the ptl that one has read, and by the answer: total, so that code may ask for them by any.
-use Rattle.std.specs.Prelude.{◌&&◌, List, ℕ, ◌+◌, ◌-◌, ◌*◌, leb, length}
-use Rattle.model.specs.Choice.{if◌then◌else◌}
+use Rattle.std.specs.Prelude.{◌&&◌, List, ℕ, ◌+◌, ◌-◌, ◌*◌, leb, length, if◌then◌else◌}
 use Rattle.model.specs.Parts.{Part, part_at, no_part}
 use Rattle.model.specs.declared.ImageAnswer.{ImageAnswer}
 use Rattle.model.specs.declared.ImageAnswer.TheVariants.{Image, NotImage}

@@ -1,7 +1,6 @@
 -- What the reader's call leaves: the number that it returns and the lent answer afterwards, by the model's own definition of the reader.
 -- An answer of another length than three words is refused 1, and nothing changes.
-use Rattle.std.specs.Prelude.{◌≡◌, List, [], ◌∷◌, ℕ, eqb, length}
-use Rattle.model.specs.Choice.{if◌then◌else◌}
+use Rattle.std.specs.Prelude.{◌≡◌, List, [], ◌∷◌, ℕ, eqb, length, if◌then◌else◌}
 use Rattle.model.specs.Answers.{refusal_number, ImageNumbers}
 use Rattle.model.specs.Image.{image_call}
 use Rattle.model.specs.declared.Refusal.TheVariants.{Bound}

@@ -8,7 +8,8 @@ use native.Mathlib.Nat.{le_of_suc-le-suc, not-suc-le-zero}
 use native.Mathlib.Omega.{arith}
 use native.Mathlib.Decide.{ℕ_discrete}
 use lib.ListN.{length, get_or}
-use Rattle.model.specs.Choice.{if◌then◌else◌, passes, every_below, list_below}
+use Rattle.model.specs.Choice.{passes, every_below, list_below}
+use Rattle.std.specs.Prelude.{if◌then◌else◌}
 
 pub clash : {A : Type 0} → ◌≡◌ {A = ℕ} 0 1 → A
 clash z = absurd (omega arith)

@@ -13,7 +13,8 @@ use lib.Dec.{ltb}
 use lib.ListN.{length, take, drop}
 use lib.Seq.{sets, sets-eq, paste-zero}
 use borrow.Author.Tests.{ltb-true}
-use Rattle.model.specs.Choice.{if◌then◌else◌, list_below}
+use Rattle.model.specs.Choice.{list_below}
+use Rattle.std.specs.Prelude.{if◌then◌else◌}
 use Rattle.model.specs.Bytes.{page}
 use Rattle.model.specs.Pages.{page_of, offset, first_va, main_at, frame_in}
 use Rattle.model.specs.Table.{entry, ppx, valid}

@@ -8,7 +8,7 @@ use borrow.Author.Tests.{lt-ltb, le-ltb}
 use lib.Dec.{ltb, eqb}
 use lib.Pow.{pow_pos, pow_mono, pow-add, shl-shr, shr-shr, shr_lt, high, low, ones_lt, ones_split, high_ones}
 use lib.Bits.{bit_or, or_zero_r, or_shifted_r, shifted_even}
-use Rattle.model.specs.Choice.{if◌then◌else◌}
+use Rattle.std.specs.Prelude.{if◌then◌else◌}
 use Rattle.model.specs.Words.{field, top_ones, fill, shift_signed}
 use Rattle.laws.specs.Shift.{AsItWas, Filled}
 use Rattle.laws.proofs.Marks.{or_bit}

@@ -9,7 +9,7 @@ use native.Mathlib.Omega.{arith}
 use lib.Dec.{ltb}
 use lib.ListN.{length, get_or}
 use borrow.Author.Tests.{ltb-true, lt-ltb}
-use Rattle.model.specs.Choice.{if◌then◌else◌}
+use Rattle.std.specs.Prelude.{if◌then◌else◌}
 use Rattle.model.specs.Pages.{virtual, page_of, entry_at, frame_at, main_page}
 use Rattle.model.specs.Table.{entry, kept, spare, with_spare, set_spare}
 use Rattle.model.specs.State.{State, state}

@@ -1,8 +1,7 @@
 -- "Outside the frames, a call changes main memory only in the table entries that a page load names": the pages that the handler's
 -- steps name, brought in or put out, along the definitions of an instruction, a run and a call; the victims alone; and the victims
 -- that are copied back to swap.
-use Rattle.std.specs.Prelude.{List, [], ◌∷◌, ◌++◌, ℕ, zero, suc, ◌+◌, ◌≤◌}
-use Rattle.model.specs.Choice.{if◌then◌else◌}
+use Rattle.std.specs.Prelude.{List, [], ◌∷◌, ◌++◌, ℕ, zero, suc, ◌+◌, ◌≤◌, if◌then◌else◌}
 use Rattle.model.specs.Pages.{page_of}
 use Rattle.model.specs.Frames.{page_in, free, frame, copies}
 use Rattle.model.specs.State.{State}

@@ -1,7 +1,6 @@
 -- The signed shift right, of a word x by n places: what it was before it was written as a shift with a fill, and what it is bit by bit.
 -- The theorems are `as_it_was` and `filled` of proofs/Shift.
-use Rattle.std.specs.Prelude.{◌≡◌, ℕ, ◌+◌, ◌-◌, ◌/◌, ◌^◌, ◌<◌, ltb}
-use Rattle.model.specs.Choice.{if◌then◌else◌}
+use Rattle.std.specs.Prelude.{◌≡◌, ℕ, ◌+◌, ◌-◌, ◌/◌, ◌^◌, ◌<◌, ltb, if◌then◌else◌}
 use Rattle.model.specs.Words.{field, shift_signed}
 
 -- "Every answer stays as it is."

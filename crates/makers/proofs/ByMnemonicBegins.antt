@@ -7,7 +7,7 @@ use native.Mathlib.Nat.{pow-succ'}
 use native.Mathlib.Omega.{arith}
 use borrow.Author.Tests.{le-leb, ltb-true, not-true}
 use lib.Dec.{ltb}
-use Rattle.model.specs.Choice.{if◌then◌else◌}
+use Rattle.std.specs.Prelude.{if◌then◌else◌}
 use Rattle.model.specs.Console.{digits}
 use Rattle.text.specs.Reading.{is_digit}
 use Rattle.notation.specs.Table.{rows, spelled}

@@ -9,7 +9,8 @@ use native.Mathlib.Nat.{mod-mod}
 use native.Mathlib.Omega.{arith}
 use borrow.Author.Tests.{eqb-true, eqb-false, ne_eqb}
 use lib.Dec.{eqb}
-use Rattle.model.specs.Choice.{if◌then◌else◌, every_below}
+use Rattle.model.specs.Choice.{every_below}
+use Rattle.std.specs.Prelude.{if◌then◌else◌}
 use Rattle.model.specs.Words.{low, field}
 use Rattle.model.specs.Instruction.{plan, register, immediate}
 use Rattle.model.specs.declared.Plan.{Plan}

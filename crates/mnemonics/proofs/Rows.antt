@@ -8,7 +8,8 @@ use native.Mathlib.Omega.{arith}
 use borrow.Author.Tests.{ltb-true, leb-true}
 use lib.Dec.{eqb, ltb, leb}
 use lib.ListN.{length, get_or}
-use Rattle.model.specs.Choice.{if◌then◌else◌, passes, every_below}
+use Rattle.model.specs.Choice.{passes, every_below}
+use Rattle.std.specs.Prelude.{if◌then◌else◌}
 use Rattle.text.proofs.Words.{unequal}
 use Rattle.laws.proofs.Choice.{and_left, and_right, every_at, pass}
 use Rattle.notation.specs.Table.{Row, rows, first_row, spelled}

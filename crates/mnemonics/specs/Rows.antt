@@ -1,6 +1,6 @@
 -- The rows by their places, which the code goes by; names as numbers; and what holds of every piece.
-use Rattle.std.specs.Prelude.{Bool, true, ◌≡◌, List, [], ◌∷◌, map, ℕ, suc, ◌+◌, ◌*◌, ◌≤◌, ◌<◌, ltb, eqb, length, get_or, take, drop}
-use Rattle.model.specs.Choice.{if◌then◌else◌, every_below}
+use Rattle.std.specs.Prelude.{Bool, true, ◌≡◌, List, [], ◌∷◌, map, ℕ, suc, ◌+◌, ◌*◌, ◌≤◌, ◌<◌, ltb, eqb, length, get_or, take, drop, if◌then◌else◌}
+use Rattle.model.specs.Choice.{every_below}
 use Rattle.notation.specs.Table.{Row, rows}
 use Rattle.notation.specs.declared.Piece.{Piece}
 use Rattle.notation.specs.declared.Piece.TheVariants.{Mark, Field}

@@ -1,8 +1,7 @@
 -- Section "One attempt", on any memory that says of an access to a virtual address whether it is illegal, faults, or where in a
 -- list of bytes it goes. The paged machine and the flat machine are both this, each with its own access. A store that is carried out
 -- says where.
-use Rattle.std.specs.Prelude.{Bool, true, false, List, ℕ, ◌*◌}
-use Rattle.model.specs.Choice.{if◌then◌else◌}
+use Rattle.std.specs.Prelude.{Bool, true, false, List, ℕ, ◌*◌, if◌then◌else◌}
 use Rattle.model.specs.Words.{aligned, extend}
 use Rattle.model.specs.Bytes.{number, store}
 use Rattle.model.specs.Instruction.{plan, written, onward}

@@ -1,7 +1,7 @@
 -- Section "Calls and their refusals". Each call has one definition, which is its complete outcome: the numbers it answers with, the
 -- record it hands back, and every lent byte afterwards.
-use Rattle.std.specs.Prelude.{Bool, true, false, ◌&&◌, List, [], ◌∷◌, ℕ, zero, suc, ◌+◌, leb, ltb, length, set}
-use Rattle.model.specs.Choice.{if◌then◌else◌, every_below, list_below}
+use Rattle.std.specs.Prelude.{Bool, true, false, ◌&&◌, List, [], ◌∷◌, ℕ, zero, suc, ◌+◌, leb, ltb, length, set, if◌then◌else◌}
+use Rattle.model.specs.Choice.{every_below, list_below}
 use Rattle.model.specs.Pages.{page_of, offset, main_at, frame_in, swap_of, swap_at, main_page, swap_page}
 use Rattle.model.specs.Table.{entry, ppx, valid}
 use Rattle.model.specs.Frames.{with_mark, remarked}

@@ -1,10 +1,5 @@
--- How definitions choose: by a test, by every test of a row, by a test at each number below a bound; and a list by its elements.
-use Rattle.std.specs.Prelude.{Bool, true, false, ◌&&◌, List, [], ◌∷◌, ℕ, zero, suc}
-
-infixr 10 if◌then◌else◌
-abbrev pub if◌then◌else◌ {ℓ} : {A : Type ℓ} → Bool → A → A → A
-if◌then◌else◌ true a b = a
-if◌then◌else◌ false a b = b
+-- How definitions choose: by every test of a row, by a test at each number below a bound; and a list by its elements.
+use Rattle.std.specs.Prelude.{Bool, true, ◌&&◌, List, [], ◌∷◌, ℕ, zero, suc}
 
 -- each test of the row passes
 unfoldable pub passes : List Bool → Bool

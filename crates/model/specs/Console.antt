@@ -1,7 +1,6 @@
 -- Section "Console images", its end: what the program writes, byte by byte, for what it reads; and what it leaves in the memories that
 -- it is lent.
-use Rattle.std.specs.Prelude.{List, [], ◌∷◌, ◌++◌, ℕ, zero, suc, ◌+◌, ◌*◌, ◌/◌, ◌%◌, eqb, leb, ltb, length, take, drop, replicate}
-use Rattle.model.specs.Choice.{if◌then◌else◌}
+use Rattle.std.specs.Prelude.{List, [], ◌∷◌, ◌++◌, ℕ, zero, suc, ◌+◌, ◌*◌, ◌/◌, ◌%◌, eqb, leb, ltb, length, take, drop, replicate, if◌then◌else◌}
 use Rattle.model.specs.State.{Memory}
 use Rattle.model.specs.Answers.{refusal_number, VerdictNumbers, RunNumbers}
 use Rattle.model.specs.Calls.{unless, RunOutcome, run_call, StateOutcome}

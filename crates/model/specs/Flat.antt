@@ -1,7 +1,7 @@
 -- The flat machine, source document 000's virtual DLX: registers, 4096·ptl bytes and a rights byte for each page. It takes the same
 -- attempt and the same run as the paged machine. And the flat machine that a paged one stands for.
-use Rattle.std.specs.Prelude.{Bool, true, false, List, ℕ, ◌+◌, ◌*◌, eqb, ltb, length, get_or}
-use Rattle.model.specs.Choice.{if◌then◌else◌, list_below}
+use Rattle.std.specs.Prelude.{Bool, true, false, List, ℕ, ◌+◌, ◌*◌, eqb, ltb, length, get_or, if◌then◌else◌}
+use Rattle.model.specs.Choice.{list_below}
 use Rattle.model.specs.Words.{low, field}
 use Rattle.model.specs.Pages.{virtual, page_of}
 use Rattle.model.specs.Table.{entry}

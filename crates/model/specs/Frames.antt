@@ -1,8 +1,7 @@
 -- Section "Table and frame book": the frame book is b (frames used), hand, and B[0..31]; and by document 02's request 3 "a mark per
 -- frame", bit f of marks for frame f. Here it stands apart from memory: which frame a load takes, and the book after it.
-use Rattle.std.specs.Prelude.{Bool, false, not, ◌&&◌, ◌||◌, ℕ, zero, suc, ◌+◌, ◌%◌, ◌^◌, ltb, eqb, get_or, set, replicate}
+use Rattle.std.specs.Prelude.{Bool, false, not, ◌&&◌, ◌||◌, ℕ, zero, suc, ◌+◌, ◌%◌, ◌^◌, ltb, eqb, get_or, set, replicate, if◌then◌else◌}
 use Rattle.std.specs.Int.Bits.{bit_and, bit_or, bit_xor}
-use Rattle.model.specs.Choice.{if◌then◌else◌}
 use Rattle.model.specs.Words.{field}
 use Rattle.model.specs.Pages.{virtual}
 use Rattle.model.specs.declared.FrameBook.{FrameBook}

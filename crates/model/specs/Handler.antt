@@ -1,6 +1,5 @@
 -- Section "One attempt": "The handler loads page y." What it does to the two memories, and to the machine.
-use Rattle.std.specs.Prelude.{Bool, ℕ}
-use Rattle.model.specs.Choice.{if◌then◌else◌}
+use Rattle.std.specs.Prelude.{Bool, ℕ, if◌then◌else◌}
 use Rattle.model.specs.Pages.{frame_at, swap_of, main_page, with_main_page, swap_page, with_swap_page}
 use Rattle.model.specs.Table.{entry, with_entry, put_out, brought_to}
 use Rattle.model.specs.Frames.{page_in, marked, frame, free, advanced}

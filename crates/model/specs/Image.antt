@@ -1,6 +1,6 @@
 -- Section "Console images": the format, read from the end; the reader's complete outcome; and loading's.
-use Rattle.std.specs.Prelude.{Bool, ◌&&◌, ◌||◌, List, [], ◌∷◌, ◌++◌, ℕ, ◌+◌, ◌-◌, ◌*◌, ◌/◌, ◌%◌, eqb, leb, length, get_or, take, drop, replicate}
-use Rattle.model.specs.Choice.{if◌then◌else◌, passes, every_below}
+use Rattle.std.specs.Prelude.{Bool, ◌&&◌, ◌||◌, List, [], ◌∷◌, ◌++◌, ℕ, ◌+◌, ◌-◌, ◌*◌, ◌/◌, ◌%◌, eqb, leb, length, get_or, take, drop, replicate, if◌then◌else◌}
+use Rattle.model.specs.Choice.{passes, every_below}
 use Rattle.model.specs.Words.{aligned, low, field, plus}
 use Rattle.model.specs.Bytes.{number}
 use Rattle.model.specs.Frames.{empty_book}

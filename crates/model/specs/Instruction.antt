@@ -1,7 +1,6 @@
 -- Section "Instructions": what an instruction word asks for, by its tables, row by row. It does not speak of memory.
-use Rattle.std.specs.Prelude.{true, false, ◌&&◌, List, ℕ, ◌-◌, ◌*◌, ◌%◌, eqb, leb, get_or, set}
+use Rattle.std.specs.Prelude.{true, false, ◌&&◌, List, ℕ, ◌-◌, ◌*◌, ◌%◌, eqb, leb, get_or, set, if◌then◌else◌}
 use Rattle.std.specs.Int.Bits.{bit_and, bit_or, bit_xor}
-use Rattle.model.specs.Choice.{if◌then◌else◌}
 use Rattle.model.specs.Words.{plus, minus, low, field, extend, shift_left, shift_right, shift_signed, compared}
 use Rattle.model.specs.declared.Plan.{Plan}
 use Rattle.model.specs.declared.Plan.TheVariants.{Unknown, Set, LoadByte, LoadHalf, LoadWord, StoreByte, StoreHalf, StoreWord, Trapping}

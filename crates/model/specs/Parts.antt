@@ -1,8 +1,7 @@
 -- Parts of a lent slice, each the slice's own bytes from a place of it on: "a part of the file's own bytes", "from main memory or from
 -- swap as its entry says".
-use Rattle.std.specs.Prelude.{◌≡◌, List, [], ℕ, ◌+◌, length, take, drop}
+use Rattle.std.specs.Prelude.{◌≡◌, List, [], ℕ, ◌+◌, length, take, drop, if◌then◌else◌}
 use Rattle.std.specs.Borrow.{Bor}
-use Rattle.model.specs.Choice.{if◌then◌else◌}
 use Rattle.model.specs.Pages.{main_at, swap_of, swap_at}
 use Rattle.model.specs.Table.{entry, ppx, valid}
 use Rattle.model.specs.State.{Memory, State, state}

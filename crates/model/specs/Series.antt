@@ -1,7 +1,6 @@
 -- A series of steps, each handed what the last one left: the state after it, the loads that it reports, and its order of demands. A step
 -- is a call, or what the host does to the spare bits of an entry between calls.
-use Rattle.std.specs.Prelude.{◌&&◌, List, [], ◌∷◌, ◌++◌, ℕ, ◌+◌, ltb}
-use Rattle.model.specs.Choice.{if◌then◌else◌}
+use Rattle.std.specs.Prelude.{◌&&◌, List, [], ◌∷◌, ◌++◌, ℕ, ◌+◌, ltb, if◌then◌else◌}
 use Rattle.model.specs.Table.{set_spare}
 use Rattle.model.specs.State.{State, state}
 use Rattle.model.specs.Flat.{flat}

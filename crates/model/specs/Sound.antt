@@ -1,6 +1,6 @@
 -- Sections "Numbers that bound it" and "Table and frame book": when a shape fits its memories, and when a machine is sound.
-use Rattle.std.specs.Prelude.{Bool, ◌&&◌, ◌||◌, not, List, [], ◌∷◌, ℕ, ◌+◌, ◌*◌, ◌^◌, eqb, leb, ltb, length, get_or}
-use Rattle.model.specs.Choice.{if◌then◌else◌, passes, every_below}
+use Rattle.std.specs.Prelude.{Bool, ◌&&◌, ◌||◌, not, List, [], ◌∷◌, ℕ, ◌+◌, ◌*◌, ◌^◌, eqb, leb, ltb, length, get_or, if◌then◌else◌}
+use Rattle.model.specs.Choice.{passes, every_below}
 use Rattle.model.specs.Words.{aligned}
 use Rattle.model.specs.Bytes.{same}
 use Rattle.model.specs.Pages.{virtual, frame_at, swap_of, main_page, swap_page}

@@ -1,6 +1,5 @@
 -- Sections "Table and frame book" and "One attempt": the flat memory at a virtual address, and an access to it.
-use Rattle.std.specs.Prelude.{Bool, true, false, List, ℕ, ltb, get_or}
-use Rattle.model.specs.Choice.{if◌then◌else◌}
+use Rattle.std.specs.Prelude.{Bool, true, false, List, ℕ, ltb, get_or, if◌then◌else◌}
 use Rattle.model.specs.Pages.{page_of, offset, main_at, swap_of, swap_at}
 use Rattle.model.specs.Table.{entry, ppx, readable, writable, valid}
 use Rattle.model.specs.State.{Memory}

@@ -1,6 +1,6 @@
 -- What the two calls answer, and every byte of the lent output afterwards.
-use Rattle.std.specs.Prelude.{List, [], ◌∷◌, ℕ, ◌+◌, ◌*◌, ◌/◌, ◌%◌, leb, eqb, length}
-use Rattle.model.specs.Choice.{if◌then◌else◌, list_below}
+use Rattle.std.specs.Prelude.{List, [], ◌∷◌, ℕ, ◌+◌, ◌*◌, ◌/◌, ◌%◌, leb, eqb, length, if◌then◌else◌}
+use Rattle.model.specs.Choice.{list_below}
 use Rattle.model.specs.Bytes.{number}
 use Rattle.model.specs.Answers.{VerdictNumbers, verdict_numbers}
 use Rattle.model.specs.declared.Refusal.TheVariants.{Bound, Room}

@@ -1,6 +1,5 @@
 -- A line, read from the left: a mnemonic with its operands, or one plain number. Blanks may stand before each thing that is read.
-use Rattle.std.specs.Prelude.{Bool, true, false, ◌&&◌, not, List, [], ◌∷◌, ℕ, ◌+◌, ◌-◌, ◌*◌, ◌/◌, ltb, leb, eqb, length, drop}
-use Rattle.model.specs.Choice.{if◌then◌else◌}
+use Rattle.std.specs.Prelude.{Bool, true, false, ◌&&◌, not, List, [], ◌∷◌, ℕ, ◌+◌, ◌-◌, ◌*◌, ◌/◌, ltb, leb, eqb, length, drop, if◌then◌else◌}
 use Rattle.model.specs.declared.Refusal.TheVariants.{Mnemonic, Operand, Overflow}
 use Rattle.model.specs.Bytes.{same}
 use Rattle.text.specs.Reading.{front, is_digit}

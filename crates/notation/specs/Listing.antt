@@ -1,7 +1,6 @@
 -- The lister: "A word that the machine carries out (trap too), with its unused fields zero, is listed by mnemonic; every other word as
 -- one plain unsigned number".
-use Rattle.std.specs.Prelude.{Bool, true, false, ◌&&◌, List, [], ◌∷◌, ◌++◌, ℕ, ◌+◌, ◌-◌, ◌*◌, ◌/◌, ◌%◌, ◌^◌, ltb, leb, eqb}
-use Rattle.model.specs.Choice.{if◌then◌else◌}
+use Rattle.std.specs.Prelude.{Bool, true, false, ◌&&◌, List, [], ◌∷◌, ◌++◌, ℕ, ◌+◌, ◌-◌, ◌*◌, ◌/◌, ◌%◌, ◌^◌, ltb, leb, eqb, if◌then◌else◌}
 use Rattle.model.specs.Words.{low, field}
 use Rattle.model.specs.Console.{digits}
 use Rattle.notation.specs.Table.{Row, rows, first_row}

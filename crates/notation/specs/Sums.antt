@@ -1,7 +1,6 @@
 -- A sum in a line: "Operands may be sums and differences with parentheses, nested at most eight deep, a minus before a term too, each
 -- value kept in 32 bits signed". Places count from 0; a value v is kept as v + 2^31.
-use Rattle.std.specs.Prelude.{Bool, true, false, ◌&&◌, ◌||◌, List, ℕ, zero, suc, ◌+◌, ◌-◌, ◌*◌, ltb, leb, eqb, length, get_or, drop}
-use Rattle.model.specs.Choice.{if◌then◌else◌}
+use Rattle.std.specs.Prelude.{Bool, true, false, ◌&&◌, ◌||◌, List, ℕ, zero, suc, ◌+◌, ◌-◌, ◌*◌, ltb, leb, eqb, length, get_or, drop, if◌then◌else◌}
 use Rattle.model.specs.declared.Refusal.TheVariants.{Operand, Overflow}
 use Rattle.text.specs.Reading as reading
 use Rattle.text.specs.declared.reading.Part.{Part}

@@ -1,9 +1,8 @@
 -- The mnemonics of document 01, row by row: the word with every field zero, and what stands behind the mnemonic, "RD, RS1, then RS2 or
 -- number, each where used; loads and stores as sw in document 01".
-use Rattle.std.specs.Prelude.{Bool, true, false, List, [], ◌∷◌, ℕ, suc, ◌+◌, ◌*◌, ◌^◌}
+use Rattle.std.specs.Prelude.{Bool, true, false, List, [], ◌∷◌, ℕ, suc, ◌+◌, ◌*◌, ◌^◌, if◌then◌else◌}
 use Prim.Native.Char.{code}
 use Prim.Native.String.{String, [] as none, ◌∷◌ as ◌then◌}
-use Rattle.model.specs.Choice.{if◌then◌else◌}
 use Rattle.notation.specs.declared.Piece.{Piece}
 use Rattle.notation.specs.declared.Piece.TheVariants.{Mark, Field}
 

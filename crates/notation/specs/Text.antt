@@ -1,6 +1,5 @@
 -- A text, line by line: "one instruction a line", and "A bad line answers with its line number and column".
-use Rattle.std.specs.Prelude.{List, [], ◌∷◌, ℕ, ◌+◌, eqb}
-use Rattle.model.specs.Choice.{if◌then◌else◌}
+use Rattle.std.specs.Prelude.{List, [], ◌∷◌, ℕ, ◌+◌, eqb, if◌then◌else◌}
 use Rattle.model.specs.declared.Refusal.{Refusal}
 use Rattle.notation.specs.Line.{line_of}
 use Rattle.notation.specs.declared.Parsed.{Parsed}

@@ -5,7 +5,7 @@ use mathlib.Core.List.{List}
 use Prim.Native.Nat.{ℕ, ◌/◌, ◌%◌, ◌≤◌, ◌<◌}
 use borrow.Author.Tests.{lt-ltb, le-ltb, eq-eqb, ne_eqb, not-true, not-false}
 use lib.Dec.{ltb, eqb}
-use Rattle.model.specs.Choice.{if◌then◌else◌}
+use Rattle.std.specs.Prelude.{if◌then◌else◌}
 use Rattle.model.specs.Bytes.{store}
 use Rattle.model.specs.Pages.{entry_at, page_of, offset, main_at, frame_at, swap_of, main_page, with_main_page, swap_page, with_swap_page}
 use Rattle.model.specs.Table.{entry, with_entry, ppx, valid, put_out, brought_to}

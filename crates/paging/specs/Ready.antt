@@ -1,6 +1,5 @@
 -- What the handler needs, and what it hands back.
-use Rattle.std.specs.Prelude.{ℕ, ◌≤◌, ◌<◌}
-use Rattle.model.specs.Choice.{if◌then◌else◌}
+use Rattle.std.specs.Prelude.{ℕ, ◌≤◌, ◌<◌, if◌then◌else◌}
 use Rattle.model.specs.Frames.{page_in, marked, free, frame, advanced}
 use Rattle.model.specs.Handler.{out, loaded}
 use Rattle.model.specs.State.{Memory}

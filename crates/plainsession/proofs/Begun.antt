@@ -8,7 +8,7 @@ use native.Mathlib.Omega.{arith}
 use borrow.Author.Tests.{le-leb, lt-leb}
 use lib.Dec.{eqb}
 use lib.ListN.{length, take-append-drop}
-use Rattle.model.specs.Choice.{if◌then◌else◌}
+use Rattle.std.specs.Prelude.{if◌then◌else◌}
 use Rattle.model.specs.Answers.{refusal_number, verdict_numbers, image_numbers}
 use Rattle.model.specs.Calls.{unless}
 use Rattle.model.specs.Image.{ptl_of, start_of, frames_of, image_call}

@@ -1,6 +1,5 @@
 -- The program `plain`: what it writes for an image and a script.
-use Rattle.std.specs.Prelude.{true, ◌≡◌, List, ◌++◌, ℕ, ◌*◌, eqb, leb, length, replicate}
-use Rattle.model.specs.Choice.{if◌then◌else◌}
+use Rattle.std.specs.Prelude.{true, ◌≡◌, List, ◌++◌, ℕ, ◌*◌, eqb, leb, length, replicate, if◌then◌else◌}
 use Rattle.model.specs.Answers.{refusal_number}
 use Rattle.model.specs.Image.{ptl_of, start_of, frames_of}
 use Rattle.model.specs.Console.{refused_line}

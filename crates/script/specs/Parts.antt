@@ -1,7 +1,6 @@
 -- The parts of a line, each behind one space. A part that does not fit says at which column: that of the first byte that does not fit,
 -- or the one behind the line's end; of a number above its bound, the first digit's. Places count from 0, columns from 1.
-use Rattle.std.specs.Prelude.{◌&&◌, List, ℕ, ◌+◌, ◌-◌, ◌/◌, ◌%◌, eqb, leb, length, get_or}
-use Rattle.model.specs.Choice.{if◌then◌else◌}
+use Rattle.std.specs.Prelude.{◌&&◌, List, ℕ, ◌+◌, ◌-◌, ◌/◌, ◌%◌, eqb, leb, length, get_or, if◌then◌else◌}
 use Rattle.text.specs.Reading.{is_space}
 use Rattle.text.specs.Reading.{number_at, hex_end}
 use Rattle.text.specs.declared.reading.Part.{Part}

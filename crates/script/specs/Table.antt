@@ -1,6 +1,5 @@
 -- The table of a script's words: what each names, and which parts stand behind it.
-use Rattle.std.specs.Prelude.{List, [], ◌∷◌, ℕ}
-use Rattle.model.specs.Choice.{if◌then◌else◌}
+use Rattle.std.specs.Prelude.{List, [], ◌∷◌, ℕ, if◌then◌else◌}
 use Rattle.record.specs.Words.{last_word}
 use Rattle.model.specs.Bytes.{same}
 use Rattle.script.specs.Vocabulary.{run_word, read_word, write_word, view_word, reply_word, registers_word, frames_word, sum_word, main_word, swap_word, record_word, lend_word, spare_word}

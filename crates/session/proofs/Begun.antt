@@ -8,7 +8,7 @@ use native.Mathlib.Omega.{arith}
 use borrow.Author.Tests.{le-leb, lt-leb}
 use lib.Dec.{eqb, leb}
 use lib.ListN.{length, take-append-drop}
-use Rattle.model.specs.Choice.{if◌then◌else◌}
+use Rattle.std.specs.Prelude.{if◌then◌else◌}
 use Rattle.model.specs.State.{Memory, State, state}
 use Rattle.model.specs.Answers.{refusal_number, verdict_numbers, image_numbers}
 use Rattle.model.specs.Calls.{unless, StateOutcome}

@@ -1,7 +1,6 @@
 -- What stands between two lines, and what a line makes of it.
-use Rattle.std.specs.Prelude.{Bool, List, ◌++◌, ℕ, ◌+◌, leb, take, drop}
+use Rattle.std.specs.Prelude.{Bool, List, ◌++◌, ℕ, ◌+◌, leb, take, drop, if◌then◌else◌}
 use Rattle.laws.specs.Over.{over}
-use Rattle.model.specs.Choice.{if◌then◌else◌}
 use Rattle.model.specs.State.{State, state}
 use Rattle.model.specs.Pages.{virtual, entry_at}
 use Rattle.model.specs.Table.{set_spare}

@@ -1,6 +1,5 @@
 -- The program `series`: what it writes for an image, a number of main pages and a script.
-use Rattle.std.specs.Prelude.{true, ◌≡◌, List, ◌++◌, ℕ, ◌*◌, eqb, leb, length, replicate}
-use Rattle.model.specs.Choice.{if◌then◌else◌}
+use Rattle.std.specs.Prelude.{true, ◌≡◌, List, ◌++◌, ℕ, ◌*◌, eqb, leb, length, replicate, if◌then◌else◌}
 use Rattle.model.specs.Answers.{refusal_number}
 use Rattle.model.specs.Calls.{unless, StateOutcome}
 use Rattle.model.specs.Image.{ptl_of, start_of, frames_of, image_verdict, zero_machine, load_call}

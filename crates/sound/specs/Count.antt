@@ -1,6 +1,5 @@
 -- How many entries of the table are valid.
-use Rattle.std.specs.Prelude.{Bool, List, ℕ, zero, suc, ◌+◌}
-use Rattle.model.specs.Choice.{if◌then◌else◌}
+use Rattle.std.specs.Prelude.{Bool, List, ℕ, zero, suc, ◌+◌, if◌then◌else◌}
 use Rattle.model.specs.Pages.{virtual}
 use Rattle.model.specs.Table.{entry, valid}
 use Rattle.model.specs.declared.Shape.{Shape}

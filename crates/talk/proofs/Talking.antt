@@ -12,7 +12,7 @@ use lib.ListN.{length, take, drop, get_or}
 use lib.Seq.{take-length, drop-length, drop-cons, drop-drop}
 use borrow.Author.Tests.{le-leb, ltb-true, ltb-false, leb-true}
 use Rattle.text.specs.Scan.{slice, index_after, index_of}
-use Rattle.model.specs.Choice.{if◌then◌else◌}
+use Rattle.std.specs.Prelude.{if◌then◌else◌}
 use Rattle.laws.proofs.Choice.{and_left, and_right}
 use Rattle.text.specs.Text.{Appended}
 use Rattle.text.proofs.Appending.{nothing, joined, same, written, length_appended}

@@ -1,6 +1,5 @@
 -- A script: its lines in turn. What stands between two lines, the desk, is of any type D; a program says what a line makes of it.
-use Rattle.std.specs.Prelude.{Bool, true, false, ◌≡◌, List, [], ◌∷◌, ◌++◌, ℕ, suc, eqb}
-use Rattle.model.specs.Choice.{if◌then◌else◌}
+use Rattle.std.specs.Prelude.{Bool, true, false, ◌≡◌, List, [], ◌∷◌, ◌++◌, ℕ, suc, eqb, if◌then◌else◌}
 use Rattle.text.specs.Text.{Appended}
 
 -- ---- the lines of a script: each ends with a newline, the last one may lack it

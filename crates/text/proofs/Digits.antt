@@ -10,7 +10,7 @@ use borrow.Author.Tests.{lt-ltb, le-ltb}
 use lib.Dec.{ltb}
 use lib.ListN.{length, get_or, set, take, length-append, length-set}
 use lib.Seq.{take-suc}
-use Rattle.model.specs.Choice.{if◌then◌else◌}
+use Rattle.std.specs.Prelude.{if◌then◌else◌}
 use Rattle.model.specs.Console.{digits}
 use Rattle.text.specs.Text.{Appended, hex_digit, hex_of}
 use Rattle.text.proofs.Appending.{byte, joined, same}

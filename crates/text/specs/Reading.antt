@@ -1,7 +1,6 @@
 -- What is read in a text: a number in decimal, the end of a row of hex digits, bytes in pairs of hex digits. Places count from 0,
 -- columns from 1. Whether two words are the same is `same` of the model's Bytes.
-use Rattle.std.specs.Prelude.{Bool, ◌&&◌, ◌||◌, List, [], ◌∷◌, ℕ, ◌+◌, ◌-◌, ◌*◌, eqb, leb, length, drop}
-use Rattle.model.specs.Choice.{if◌then◌else◌}
+use Rattle.std.specs.Prelude.{Bool, ◌&&◌, ◌||◌, List, [], ◌∷◌, ℕ, ◌+◌, ◌-◌, ◌*◌, eqb, leb, length, drop, if◌then◌else◌}
 use Rattle.text.specs.declared.reading.Part.{Part}
 use Rattle.text.specs.declared.reading.Part.TheVariants.{Number, NotNumber}
 

@@ -1,6 +1,5 @@
 -- What it is to put bytes into a buffer from a place on; and bytes in hexadecimal.
-use Rattle.std.specs.Prelude.{◌≡◌, List, [], ◌∷◌, ℕ, ◌+◌, ◌/◌, ◌%◌, ◌≤◌, ltb, length}
-use Rattle.model.specs.Choice.{if◌then◌else◌}
+use Rattle.std.specs.Prelude.{◌≡◌, List, [], ◌∷◌, ℕ, ◌+◌, ◌/◌, ◌%◌, ◌≤◌, ltb, length, if◌then◌else◌}
 use Rattle.model.specs.Answers.{verdict_numbers, RunNumbers}
 use Rattle.model.specs.declared.Verdict.TheVariants.{Granted}
 use Rattle.laws.specs.Over.{over}

@@ -1,6 +1,5 @@
 -- What the programs `asm` and `list` write for what they read: the result to standard output; of a refusal one line to descriptor 2.
-use Rattle.std.specs.Prelude.{◌≡◌, List, [], ◌++◌, ℕ, eqb, leb, length}
-use Rattle.model.specs.Choice.{if◌then◌else◌}
+use Rattle.std.specs.Prelude.{◌≡◌, List, [], ◌++◌, ℕ, eqb, leb, length, if◌then◌else◌}
 use Rattle.model.specs.Console as console
 use Rattle.model.specs.declared.Refusal.TheVariants.{Room}
 use Rattle.notation.specs.Calls.{AssembleNumbers, AssembleOutcome, assemble_outcome, assemble_call, ListOutcome, list_outcome, list_call}

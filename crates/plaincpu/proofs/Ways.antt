@@ -33,6 +33,9 @@ module _ (rights : List ℕ) (writing : Bool) (va : ℕ) where
   unfolding allow
   beyond h = rw (le-ltb _ _ h) refl
 
+  pub reached_beyond : (n : ℕ) → va % n ≡ 0 → length rights ≤ va / 4096 → Illegal ≡ reach n va (allow rights writing va)
+  reached_beyond n y h = reach_even n va _ y _ (beyond h) _ refl
+
   -- by the page x whose rights the code reads
   module _ (x : ℕ) (ok : Bool) (is-granted : ok ≡ grants writing (get_or rights x 0)) (inside : x < length rights) (e : x ≡ va / 4096) where
     by_right : (if ok then said.At va else said.Illegal) ≡ allow rights writing va

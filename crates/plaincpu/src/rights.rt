@@ -16,6 +16,7 @@ pub fn grants(b: u8, writing: bool) -> bool
 }
 
 // The access to va, of `width` bytes.
+#[tactic(auto, using(crate::proofs::Ways::reached_beyond))]
 pub fn reach(rights: &[u8], va: u32, width: u32, writing: bool) -> Reached
     requires { 0 < width }
     ensures { result ≡ rule.reach width va (flat.allow rights.now writing va) }

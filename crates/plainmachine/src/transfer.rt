@@ -16,6 +16,7 @@ pub(crate) fn read_bytes(memory: &[u8], va: u32, into: &mut [u8])
     words::copy(&memory[start..end], into);
 }
 
+#[tactic(auto, using(crate::proofs::Parts::written_none))]
 pub(crate) fn write_bytes(memory: &mut [u8], va: u32, from: &[u8])
     requires { Within (length memory.old) va (length from.now) }
     ensures { memory.new ≡ over va from.now memory.old }

@@ -30,6 +30,9 @@ module _ (p : PlainState) where
   pub fit : PlainFit p → true ≡ fits p
   fit f = sym (fits_of p f)
 
+pub many_pages : (ptl : ℕ) (bytes rights : List ℕ) → 1024 < ptl → false ≡ fits (handed ptl 0 bytes rights)
+many_pages ptl bytes rights h = unfit _ (λ f. omega (arith, h, f))
+
 module _ (gpr0 : ℕ) (rights : List ℕ) where
   pub zero_wrong : (gpr0 ≡ 0 → ⊥) → false ≡ sound (handed 0 gpr0 [] rights)
   unfolding sound passes

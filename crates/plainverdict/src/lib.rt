@@ -26,6 +26,7 @@ fn unless(test: bool, r: Refusal) -> Verdict
 }
 
 // "1 for ptl or a lent length". In 64 bits no product goes round.
+#[tactic(auto, using(crate::proofs::Verdicts::many_pages))]
 fn fits(ptl: u32, memory: &[u8], rights: &[u8]) -> bool
     ensures { result ≡ calls.fits (handed ptl 0 memory.now rights.now) }
 {
@@ -46,6 +47,7 @@ fn fits(ptl: u32, memory: &[u8], rights: &[u8]) -> bool
 }
 
 // "2 only for GPR 0 not 0 or a rights byte above 3". The reader has the rule of a rights byte.
+#[tactic(auto, using(crate::proofs::Verdicts::zero_wrong))]
 fn sound(zero: u32, rights: &[u8]) -> bool
     ensures { result ≡ calls.sound (handed 0 zero [] rights.now) }
 {

@@ -7,9 +7,6 @@ use Rattle.plainverdict.proofs.fits.Goals as goal
 pub returns-then-pages-lt1 : goal.returns-then-pages-lt1
 returns-then-pages-lt1 c = unfit _ (λ f. omega (arith, f))
 
-pub returns-then-pages-gt1024 : goal.returns-then-pages-gt1024
-returns-then-pages-gt1024 c = unfit _ (λ f. omega (arith, f))
-
 pub returns-then-memory-pages : goal.returns-then-memory-pages
 returns-then-memory-pages c = unfit _ (λ f. omega (arith, f))
 

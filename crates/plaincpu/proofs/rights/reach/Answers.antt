@@ -3,17 +3,12 @@ use mathlib.Core.Path.{refl, ap}
 use mathlib.Core.Bool.{not}
 use native.Mathlib.Omega.{arith}
 use Rattle.cpu.proofs.Ways.{reach_odd, reach_even}
-use Rattle.plaincpu.proofs.Ways.{beyond, no_right, granted}
+use Rattle.plaincpu.proofs.Ways.{no_right, granted}
 use borrow.Author.Rules.{rules}
 use Rattle.plaincpu.proofs.rights.reach.Goals as goal
 
 pub returns-then-va-width-ne0 : goal.returns-then-va-width-ne0
 returns-then-va-width-ne0 c = let a = c.args in reach_odd a.width a.va _ (search rules)
-
-pub returns-then-x-rights : goal.returns-then-x-rights
-returns-then-x-rights c =
-    let a = c.args in
-    reach_even a.width a.va _ (search rules) _ (beyond _ a.writing a.va (omega (arith, c.if-x-rights.true))) _ refl
 
 pub returns-then-not-grants : goal.returns-then-not-grants
 returns-then-not-grants c =

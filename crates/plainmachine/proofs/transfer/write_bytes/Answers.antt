@@ -1,12 +1,7 @@
 -- `transfer::write_bytes`: no byte, or the part of the memory.
 use native.Mathlib.Omega.{arith}
-use Rattle.plainmachine.proofs.Parts.{written_none, written_part}
+use Rattle.plainmachine.proofs.Parts.{written_part}
 use Rattle.plainmachine.proofs.transfer.write_bytes.Goals as goal
-
-pub returns-then-from-eq0 : goal.returns-then-from-eq0
-returns-then-from-eq0 c =
-    let a = c.args in
-    written_none a.memory.now a.from.now a.va (omega arith)
 
 pub slice_bounds-copy-end : goal.slice_bounds-copy-end
 slice_bounds-copy-end c = omega (arith, c.requires (omega arith))

@@ -1,6 +1,6 @@
 # Reads the log of a refused crate and says what was refused first, 'fact: ..' or 'unfit: ..'. What follows from another refusal is
 # passed over. A fact is a statement that does not hold: a goal that fails at named values, two values that computing tells apart, a
-# goal that no way proves. All else, and what is not known here, is a proof text that does not fit the code or the statement.
+# goal that no way proves, also one for which no proof text stands. All else, and what is not known here, is a proof text that does not fit the code or the statement.
 function settle(text) {
     what = "unfit"
     if (text ~ /the (goal|part) fails, at /) what = "fact"
@@ -8,6 +8,7 @@ function settle(text) {
     else if (text ~ /`search`: no proof of / && text ~ /Every way was tried/) what = "fact"
     else if (text ~ /so what it leaves must be a path whose two ends are equal/) what = "fact"
     else if (text ~ /^[^ ]*: error: `[^`]*`: expected type `[^`]*`, but this has type `[^`]*`/ && text !~ /tie\.|`[^`]*\?[0-9]/) what = "fact"
+    else if (text ~ /^note: [^ ]*: it is not proved that /) what = "fact"
     gsub(/[^ ]*\/must-fail\/[^\/ ]*\/[^\/ ]*\//, "", text)
     gsub(/  +/, " ", text)
     print what ": " substr(text, 1, 240)

@@ -156,7 +156,7 @@ image_calls = record {
   read = λ file a a' e e'. image_told a a' (e ∙ sym e');
   pages = λ file. part_same file _;
   rights = λ file. part_same file _;
-  least_main_pages_lem = λ frames. same _;
+  least_main_pages = λ frames. same _;
   load = λ file m. state_same (load_call file m);
 }
 

@@ -81,7 +81,7 @@ pub record ImageCalls : Type 0 where
   pub read : (file : List ℕ) → NoTwo (promises.ImagePromise file)
   pub pages : (file : Bor (List ℕ)) → NoTwoParts (promises.PagesPromise file)
   pub rights : (file : Bor (List ℕ)) → NoTwoParts (promises.RightsPromise file)
-  pub least_main_pages_lem : (frames : ℕ) → NoTwo (promises.LeastMainPagesPromise frames)
+  pub least_main_pages : (frames : ℕ) → NoTwo (promises.LeastMainPagesPromise frames)
   pub load : (file : List ℕ) (m : Memory) → NoTwoLent (promises.LoadPromise file m)
 
 -- ---- those of the plain engine: a run and a write may change the lent memory, loading the rights too

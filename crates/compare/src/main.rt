@@ -1,7 +1,8 @@
 // `compare IMAGE_FILE MAIN_PAGES`: a script of calls on standard input, done on both engines, which are compared after each.
 #![tactic(auto)]
 
-ghost use Rattle.std.specs.Prelude.{◌≡◌, ◌*◌, ◌≤◌, length};
+ghost use Rattle.std.specs.Prelude.{◌≡◌, ◌*◌, ◌≤◌, length, IfOk, OnOk, IfSome};
+ghost use Rattle.std.specs.Io.KnownBytes.{Appends};
 ghost use Rattle.model.specs.State.{state};
 ghost use Rattle.talk.specs.Script.{lines_of, talk};
 ghost use Rattle.session.specs.Series.{Read};
@@ -11,15 +12,19 @@ ghost use Rattle.comparison.specs.Line.{spoken};
 
 use comparison::{Standing, Stretch};
 use model::ImageAnswer;
+use std::io;
+use std::io::{Read, Write};
 use text::reading;
 use text::reading::Part;
 
-fn fail(message: &[u8]) {
-    io::write_all(2, message);
+fn fail<E: Write>(errors: &mut E, message: &[u8]) -> io::Result<()>
+    ensures { OnOk result (Appends (E.contents errors.old) (E.contents errors.new) message.now) }
+{
+    errors.write_all(message)
 }
 
-// Each stretch is written out before the next one is done, to the script's end. What stands then is promised.
-fn go(
+// Each stretch is written out before the next one is done, to the script's end. What stands then is promised, and what is written.
+fn go<W: Write>(
     first: Standing,
     main: &mut [u8],
     swap: &mut [u8],
@@ -27,11 +32,14 @@ fn go(
     rights: &[u8],
     script: &[u8],
     out: &mut [u8],
-) -> Standing
+    to: &mut W,
+) -> io::Result<Standing>
     requires { Stands (state first.machine main.old swap.old) memory.old × (first.lines ≡ 0)
         × (9000 ≤ length out.old) × (length script.now ≤ 65536) }
-    ensures { desk result main.new swap.new memory.new rights.now
-        ≡ (talk spoken 0 (desk first main.old swap.old memory.old rights.now) (lines_of script.now)).desk }
+    ensures stands { IfOk result (λ last. desk last main.new swap.new memory.new rights.now
+        ≡ (talk spoken 0 (desk first main.old swap.old memory.old rights.now) (lines_of script.now)).desk) }
+    ensures written { OnOk result (Appends (W.contents to.old) (W.contents to.new)
+        (talk spoken 0 (desk first main.old swap.old memory.old rights.now) (lines_of script.now)).text) }
 {
     let mut at = Stretch {
         standing: first,
@@ -41,14 +49,14 @@ fn go(
     while at.place < script.len() {
         let next = comparison::speak(at, main, swap, memory, rights, script, out);
         let filled = next.filled;
-        io::write_all(1, &out[..filled]);
+        to.write_all(&out[..filled])?;
         at = next;
     }
-    at.standing
+    Ok(at.standing)
 }
 
 // The slices lent are as long as the image and MAIN_PAGES ask for.
-fn compare(
+fn compare<W: Write>(
     file: &[u8],
     ptl: u32,
     start: u32,
@@ -59,32 +67,40 @@ fn compare(
     rights: &mut [u8],
     script: &[u8],
     out: &mut [u8],
-)
+    to: &mut W,
+) -> io::Result<()>
     requires { Read file.now ptl start frames × (length memory.old ≡ 4096 * ptl) × (9000 ≤ length out.old) × (length script.now ≤ 65536) }
 {
     let begun = comparison::begin(file, ptl, start, frames, main, swap, memory, rights, out);
     let filled = begun.filled;
-    io::write_all(1, &out[..filled]);
+    to.write_all(&out[..filled])?;
     let first = begun.standing;
     if first.goes_on {
-        let last = go(first, main, swap, memory, rights, script, out);
+        let last = go(first, main, swap, memory, rights, script, out, to)?;
         let end = comparison::close(last, out);
-        io::write_all(1, &out[..end]);
+        to.write_all(&out[..end])?;
     }
+    Ok(())
 }
 
 // The script is read whole before anything is written; a byte more than it may have tells that it is too long.
-fn with_file(file: &[u8], pages: u32) {
+fn with_file<R: Read, W: Write, E: Write>(
+    file: &[u8],
+    pages: u32,
+    from: &mut R,
+    to: &mut W,
+    errors: &mut E,
+) -> io::Result<()> {
     let mut script = [0; 65537];
-    let count = io::read_full(0, &mut script);
+    let count = files::read_full(from, &mut script)?;
     if 65536 < count {
-        return fail(b"compare: the script is longer than 65536 bytes\n");
+        return fail(errors, b"compare: the script is longer than 65536 bytes\n");
     }
     let mut out = [0; 65536];
     match comparison::admit(file, pages) {
         ImageAnswer::NotImage(refusal) => {
             let filled = comparison::turned_away(refusal, &mut out);
-            io::write_all(1, &out[..filled]);
+            to.write_all(&out[..filled])
         }
         ImageAnswer::Image { ptl, start, frames } => {
             let mut main = [0; 262144];
@@ -105,40 +121,46 @@ fn with_file(file: &[u8], pages: u32) {
                 &mut rights[..n],
                 &script[..count],
                 &mut out,
-            );
+                to,
+            )
         }
     }
 }
 
 // A byte more than an image may have is read, so that a longer file is known.
-fn with_descriptor(file: i32, pages: u32) {
+fn with_descriptor<F: Read, R: Read, W: Write, E: Write>(
+    file: &mut F,
+    pages: u32,
+    from: &mut R,
+    to: &mut W,
+    errors: &mut E,
+) -> io::Result<()> {
     let mut bytes = [0; 263257];
-    let got = libc::read(file, &mut bytes);
-    if got < 0 {
-        return os::fail(b"compare: the image");
-    }
-    let first = io::count(got, &bytes);
-    let count = files::read_on(file, &mut bytes, first);
-    with_file(&bytes[..count], pages)
+    let first = match file.read(&mut bytes) {
+        Ok(first) => first,
+        Err(error) => return files::fail(errors, b"compare: the image", error),
+    };
+    let count = files::read_on(file, &mut bytes, first)?;
+    with_file(&bytes[..count], pages, from, to, errors)
 }
 
-fn main() {
-    let mut name = io::buffer();
-    let mut word = io::buffer();
-    if os::arg_count() != 3 {
-        return fail(b"usage: compare IMAGE_FILE MAIN_PAGES < SCRIPT\n");
+fn main(rt: HostRuntime) -> io::Result<()> {
+    let mut errors = rt.stderr();
+    let mut name = [0; 4096];
+    let mut word = [0; 4096];
+    if !files::has_argument(&rt, 2) || files::has_argument(&rt, 3) {
+        return fail(&mut errors, b"usage: compare IMAGE_FILE MAIN_PAGES < SCRIPT\n");
     }
-    let digits = os::arg(2, &mut word);
+    let digits = files::argument(&rt, 2, &mut word);
     let Part::Number { value, next } = reading::number_at(&word[..digits], 0, 4294967295) else {
-        return fail(b"compare: MAIN_PAGES is a decimal number below 2^32\n");
+        return fail(&mut errors, b"compare: MAIN_PAGES is a decimal number below 2^32\n");
     };
     if next != digits {
-        return fail(b"compare: MAIN_PAGES is a decimal number below 2^32\n");
+        return fail(&mut errors, b"compare: MAIN_PAGES is a decimal number below 2^32\n");
     }
-    let length = os::arg(1, &mut name);
-    let file = os::open_read(&name[..length]);
-    if file < 0 {
-        return os::fail(b"compare: the image");
+    let length = files::argument(&rt, 1, &mut name);
+    match files::open_read(&rt, &name[..length]) {
+        Ok(mut file) => with_descriptor(&mut file, value, &mut rt.stdin(), &mut rt.stdout(), &mut errors),
+        Err(error) => files::fail(&mut errors, b"compare: the image", error),
     }
-    with_descriptor(file, value)
 }

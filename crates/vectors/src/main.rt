@@ -1,17 +1,18 @@
-// Runs the worked values of document 01 that are not marked with *, compares each with what the paper says, and prints a line for it.
+// Runs the worked values, compares each with what must come out, and prints a line for it.
 #![tactic(auto)]
 
-use libc::STDOUT_FILENO;
 use model::{RunAnswer, RunResult, Stop};
+use std::io;
+use std::io::Write;
 
-fn say(name: &[u8], right: bool) {
+fn say<W: Write>(to: &mut W, name: &[u8], right: bool) -> io::Result<()> {
     if right {
-        io::write_all(STDOUT_FILENO, b"right ");
+        to.write_all(b"right ")?;
     } else {
-        io::write_all(STDOUT_FILENO, b"WRONG ");
+        to.write_all(b"WRONG ")?;
     }
-    io::write_all(STDOUT_FILENO, name);
-    io::write_all(STDOUT_FILENO, b"\n");
+    to.write_all(name)?;
+    to.write_all(b"\n")
 }
 
 fn run_number(r: RunResult) -> u32 {
@@ -91,59 +92,65 @@ fn form_image() -> [u8; 16412] {
 }
 
 // The small image: stop 1 5, finished 3, loads 1, dpc 12.
-fn small() {
+fn small<W: Write>(to: &mut W) -> io::Result<()> {
     let file = small_image(0);
     let mut main = [0u8; 20480];
     let mut swap = [0u8; 4096];
     let l = loading::load(&file, &mut main, &mut swap);
     let v = l.verdict;
     say(
+        to,
         b"the small image is loaded",
         answers::verdict_number(v) == 0,
-    );
+    )?;
     let m = l.machine;
     let r = machine::run(m, &mut main, &mut swap, 1000);
     let after = r.machine;
     let p = after.pcs;
     say(
+        to,
         b"the small image: stop 1 5, finished 3, loads 1, dpc 12",
         trapped(r, 5, 3, 1) && p.dpc == 12,
-    );
+    )?;
     say(
+        to,
         b"run 1000000 taken",
         run_number(machine::run(after, &mut main, &mut swap, 1000000)) == 0,
-    );
+    )?;
     say(
+        to,
         b"run 1000001 refused 4",
         run_number(machine::run(after, &mut main, &mut swap, 1000001)) == 4,
-    );
+    )?;
     let mut most = [0u8; 256];
     say(
+        to,
         b"transfer 256 taken",
         answers::verdict_number(machine::host_read(after, &main, &swap, 0, &mut most)) == 0,
-    );
+    )?;
     let mut more = [0u8; 257];
     say(
+        to,
         b"transfer 257 refused 4",
         answers::verdict_number(machine::host_read(after, &main, &swap, 0, &mut more)) == 4,
-    );
+    )?;
     let z = machine::reply(after, 0, 7);
     let k = z.verdict;
-    say(b"register 0 refused 4", answers::verdict_number(k) == 4);
+    say(to, b"register 0 refused 4", answers::verdict_number(k) == 4)
 }
 
 // "frames 1 refused 6"
-fn one_frame() {
+fn one_frame<W: Write>(to: &mut W) -> io::Result<()> {
     let file = small_image(1);
     let mut main = [0u8; 20480];
     let mut swap = [0u8; 4096];
     let l = loading::load(&file, &mut main, &mut swap);
     let v = l.verdict;
-    say(b"frames 1 refused 6", answers::verdict_number(v) == 6);
+    say(to, b"frames 1 refused 6", answers::verdict_number(v) == 6)
 }
 
 // "Host write of 37 2C 35 (hex) at 4095, page 0 in swap, page 1 resident: the same bytes are read after both have moved."
-fn border() {
+fn border<W: Write>(to: &mut W) -> io::Result<()> {
     let file = form_image();
     let mut main = [0u8; 20480];
     let mut swap = [0u8; 16384];
@@ -154,33 +161,38 @@ fn border() {
     let x = b.held[0];
     let y = b.held[1];
     say(
+        to,
         b"page 0 in swap, page 1 resident",
         trapped(first, 1, 2, 2) && b.used == 2 && x.0 == 2 && y.0 == 1,
-    );
+    )?;
     let text = [0x37u8, 0x2C, 0x35];
     let w = machine::host_write(shown, &mut main, &mut swap, 4095, &text);
     let u = w.verdict;
     say(
+        to,
         b"host write of 37 2c 35 at 4095",
         answers::verdict_number(u) == 0,
-    );
+    )?;
     let second = machine::run(w.machine, &mut main, &mut swap, 1000);
     let moved = second.machine;
     let g = moved.gpr;
     say(
+        to,
         b"the guest reads 37 2c 35 after both have moved",
         g[1] == 0x37 && g[2] == 0x2C && g[3] == 0x35,
-    );
+    )?;
     let mut back = [0u8; 3];
     let v = machine::host_read(moved, &main, &swap, 4095, &mut back);
     say(
+        to,
         b"the host reads 37 2c 35 back",
         answers::verdict_number(v) == 0 && back[0] == 0x37 && back[1] == 0x2C && back[2] == 0x35,
-    );
+    )
 }
 
-fn main() {
-    small();
-    one_frame();
-    border();
+fn main(rt: HostRuntime) -> io::Result<()> {
+    let mut to = rt.stdout();
+    small(&mut to)?;
+    one_frame(&mut to)?;
+    border(&mut to)
 }

@@ -1,0 +1,68 @@
+-- What is read, or written, one after another.
+use mathlib.Core.Path.{◌≡◌, refl, sym, ap, ◌∙◌}
+use Rattle.std.proofs.Common.{ℕ, List, [], ◌++◌, ◌+◌, ◌≤◌, length, take, drop, append_assoc, Some, None, rules, arith}
+use lib.Seq.{length-take-le, take-add, drop-append_seam}
+use borrow.Rule.Slice.PartMut.{put_mid, post_of}
+use Rattle.std.proofs.lemmas.List.{append-nil, take-append-le, drop-append-le}
+use Rattle.std.proofs.lemmas.Slice.{take-put_mid_below}
+use Rattle.std.specs.Prelude.{Option}
+use Rattle.std.specs.Io.KnownBytes.{Appends, Consumes}
+
+pub consumed : (a b c : Option (List ℕ)) (xs ys : List ℕ) → Consumes a b xs → Consumes b c ys → Consumes a c (xs ++ ys)
+consumed None b c xs ys h i = search rules
+consumed (Some l) None c xs ys h i = search rules
+consumed (Some l) (Some m) None xs ys h i = search rules
+consumed (Some l) (Some m) (Some n) xs ys h i = grind (arith, append_assoc)
+
+pub appended : (a b c : Option (List ℕ)) (xs ys : List ℕ) → Appends a b xs → Appends b c ys → Appends a c (xs ++ ys)
+appended None b c xs ys h i = search rules
+appended (Some l) None c xs ys h i = search rules
+appended (Some l) (Some m) None xs ys h i = search rules
+appended (Some l) (Some m) (Some n) xs ys h i = grind (arith, append_assoc)
+
+-- the first n of what a part was overwritten by stand behind what stood before it
+module _ (xs ys : List ℕ) (d k n f : ℕ) (in_list : d ≤ length xs) (in_part : n ≤ length ys) (before : f ≤ d) where
+  abbrev after : List ℕ
+  after = put_mid d k xs ys
+
+  behind : drop d after ≡ ys ++ post_of d k xs
+  behind =
+      ap (λ m. drop m after) (sym (length-take-le d xs in_list)) ∙ drop-append_seam (take d xs) (ys ++ post_of d k xs)
+
+  taken : take (d + n) after ≡ take d xs ++ take n ys
+  taken =
+      take-add d n after
+      ∙ ap (λ l. l ++ take n (drop d after)) (take-put_mid_below d k xs ys d (omega arith) in_list)
+      ∙ ap (λ l. take d xs ++ take n l) behind
+      ∙ ap (λ l. take d xs ++ l) (take-append-le n ys (post_of d k xs) in_part)
+
+  pub grown : drop f (take (d + n) after) ≡ drop f (take d xs) ++ take n ys
+  grown =
+      ap (drop f) taken
+      ∙ drop-append-le f (take d xs) (take n ys) (omega (arith, length-take-le d xs in_list, before))
+
+-- of a text so much is written that a rest is left
+pub record Saying (total : List ℕ) (old new : Option (List ℕ)) (rest : List ℕ) : Type 0 where
+  pub said : List ℕ
+  pub is : total ≡ said ++ rest
+  pub adds : Appends old new said
+
+unwritten : (a : Option (List ℕ)) → Appends a a []
+unwritten None = search rules
+unwritten (Some l) = sym (append-nil l)
+
+pub starts : (total : List ℕ) (a : Option (List ℕ)) → Saying total a a total
+starts total a = record { said = []; is = refl; adds = unwritten a }
+
+pub again : {total rest rest' : List ℕ} (more : List ℕ) {a b c : Option (List ℕ)} → Saying total a b rest → rest ≡ more ++ rest'
+    → Appends b c more → Saying total a c rest'
+again {rest = rest} {rest'} more {a} {b} {c} s e h = record {
+  said = s.said ++ more;
+  is = s.is ∙ ap (λ l. s.said ++ l) e ∙ sym (append_assoc s.said more rest');
+  adds = appended a b c s.said more s.adds h;
+}
+
+pub at_end : {total rest : List ℕ} {a b : Option (List ℕ)} → Saying total a b rest → rest ≡ [] → Appends a b total
+at_end {a = a} {b} s e =
+    let whole = s.is ∙ ap (λ l. s.said ++ l) e ∙ append-nil s.said in
+    rw whole s.adds

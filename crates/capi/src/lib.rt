@@ -18,8 +18,7 @@ const RECORD: usize = record::LENGTH;
 const PAGE: usize = 4096;
 
 // Loads a console image into lent memories and writes the record of a fresh machine.
-#[unsafe(no_mangle)]
-pub extern "C" fn brenwythal_load(
+pub fn brenwythal_load(
     file: &[u8],
     main: &mut [u8],
     swap: &mut [u8],
@@ -39,8 +38,7 @@ pub extern "C" fn brenwythal_load(
 }
 
 // Runs at most `limit` instructions. The answer: stop, detail, finished, loads, copied.
-#[unsafe(no_mangle)]
-pub extern "C" fn brenwythal_run(
+pub fn brenwythal_run(
     words: &mut [u32],
     main: &mut [u8],
     swap: &mut [u8],
@@ -69,8 +67,7 @@ pub extern "C" fn brenwythal_run(
 }
 
 // "Host read fills a lent buffer".
-#[unsafe(no_mangle)]
-pub extern "C" fn brenwythal_read(
+pub fn brenwythal_read(
     words: &[u32],
     main: &[u8],
     swap: &[u8],
@@ -87,8 +84,7 @@ pub extern "C" fn brenwythal_read(
 }
 
 // "host write takes one".
-#[unsafe(no_mangle)]
-pub extern "C" fn brenwythal_write(
+pub fn brenwythal_write(
     words: &mut [u32],
     main: &mut [u8],
     swap: &mut [u8],
@@ -109,8 +105,7 @@ pub extern "C" fn brenwythal_write(
 }
 
 // The page view, copied into a buffer of 4096 bytes. The verdict is asked for by name only where the part is empty.
-#[unsafe(no_mangle)]
-pub extern "C" fn brenwythal_view<'a>(
+pub fn brenwythal_view<'a>(
     words: &[u32],
     main: &'a [u8],
     swap: &'a [u8],
@@ -136,8 +131,7 @@ pub extern "C" fn brenwythal_view<'a>(
 }
 
 // "Reply sets one of GPR 1 to 31."
-#[unsafe(no_mangle)]
-pub extern "C" fn brenwythal_reply(words: &mut [u32], register: u32, value: u32) -> u32
+pub fn brenwythal_reply(words: &mut [u32], register: u32, value: u32) -> u32
     ensures { promises.ReplyPromise words.old register value (record { returned = result; words = words.new }) }
 {
     if words.len() != RECORD {
@@ -153,8 +147,7 @@ pub extern "C" fn brenwythal_reply(words: &mut [u32], register: u32, value: u32)
 }
 
 // Reads a console image. The answer: "ptl, start and frames as written".
-#[unsafe(no_mangle)]
-pub extern "C" fn brenwythal_image(file: &[u8], answer: &mut [u32]) -> u32
+pub fn brenwythal_image(file: &[u8], answer: &mut [u32]) -> u32
     ensures { ImagePromise file.now answer.old (record { returned = result; answer = answer.new }) }
 {
     imagewords::image_call(file, answer)
@@ -162,16 +155,14 @@ pub extern "C" fn brenwythal_image(file: &[u8], answer: &mut [u32]) -> u32
 
 // How many main pages an image with these frames needs at least; 0 where no image has them. It returns that number itself: nothing is
 // lent, and nothing can be refused.
-#[unsafe(no_mangle)]
-pub extern "C" fn brenwythal_least_main_pages(frames: u32) -> u32
+pub fn brenwythal_least_main_pages(frames: u32) -> u32
     ensures { LeastMainPagesPromise frames result }
 {
     loading::least_main_pages(frames)
 }
 
 // Assembles a maker's text into `out`. The answer: the bytes that the words take, and the line and the column of a bad line.
-#[unsafe(no_mangle)]
-pub extern "C" fn brenwythal_assemble(text: &[u8], out: &mut [u8], answer: &mut [usize]) -> u32
+pub fn brenwythal_assemble(text: &[u8], out: &mut [u8], answer: &mut [usize]) -> u32
     ensures { promises.AssemblePromise text.now out.old answer.old
         (record { returned = result; out = out.new; answer = answer.new }) }
 {
@@ -182,8 +173,7 @@ pub extern "C" fn brenwythal_assemble(text: &[u8], out: &mut [u8], answer: &mut 
 }
 
 // Lists words into `out`. The answer: the bytes that the text takes.
-#[unsafe(no_mangle)]
-pub extern "C" fn brenwythal_list(bytes: &[u8], out: &mut [u8], answer: &mut [usize]) -> u32
+pub fn brenwythal_list(bytes: &[u8], out: &mut [u8], answer: &mut [usize]) -> u32
     ensures { promises.ListPromise bytes.now out.old answer.old
         (record { returned = result; out = out.new; answer = answer.new }) }
 {

@@ -3,12 +3,14 @@
 
 ghost use Rattle.std.specs.Prelude.{◌≡◌, ◌*◌, ◌≤◌, length, IfOk, OnOk, IfSome};
 ghost use Rattle.std.specs.Io.KnownBytes.{Appends};
-ghost use Rattle.model.specs.State.{state};
-ghost use Rattle.talk.specs.Script.{lines_of, talk};
+ghost use Rattle.model.specs.State.{memory as both_memories, state};
+ghost use Rattle.talk.specs.Script.{lines_of, talk, talk_after};
 ghost use Rattle.session.specs.Series.{Read};
 ghost use Rattle.comparison.specs.Both.{Stands};
 ghost use Rattle.comparison.specs.Desk.{desk};
 ghost use Rattle.comparison.specs.Line.{spoken};
+ghost use Rattle.comparison.specs.Begun.{begun as begins};
+ghost use Rattle.comparison.specs.Compare.{closed, compare_text};
 
 use comparison::{Standing, Stretch};
 use model::ImageAnswer;
@@ -55,7 +57,8 @@ fn go<W: Write>(
     Ok(at.standing)
 }
 
-// The slices lent are as long as the image and MAIN_PAGES ask for.
+// The slices lent are as long as the image and MAIN_PAGES ask for. What is written is what the beginning says, the answer to each line
+// and `same LINES`, where no line has ended it.
 fn compare<W: Write>(
     file: &[u8],
     ptl: u32,
@@ -70,6 +73,8 @@ fn compare<W: Write>(
     to: &mut W,
 ) -> io::Result<()>
     requires { Read file.now ptl start frames × (length memory.old ≡ 4096 * ptl) × (9000 ≤ length out.old) × (length script.now ≤ 65536) }
+    ensures { OnOk result (Appends (W.contents to.old) (W.contents to.new)
+        (closed (talk_after spoken (begins file.now (both_memories main.old swap.old) memory.old rights.old) script.now))) }
 {
     let begun = comparison::begin(file, ptl, start, frames, main, swap, memory, rights, out);
     let filled = begun.filled;
@@ -90,7 +95,10 @@ fn with_file<R: Read, W: Write, E: Write>(
     from: &mut R,
     to: &mut W,
     errors: &mut E,
-) -> io::Result<()> {
+) -> io::Result<()>
+    ensures { OnOk result (IfSome (R.remaining from.old) (λ script. length script ≤ 65536
+        → Appends (W.contents to.old) (W.contents to.new) (compare_text file.now pages script))) }
+{
     let mut script = [0; 65537];
     let count = files::read_full(from, &mut script)?;
     if 65536 < count {

@@ -1,12 +1,15 @@
 -- What is read, or written, one after another.
 use mathlib.Core.Path.{◌≡◌, refl, sym, ap, ◌∙◌}
-use Rattle.std.proofs.Common.{ℕ, List, [], ◌++◌, ◌+◌, ◌≤◌, length, take, drop, append_assoc, Some, None, rules, arith}
+use mathlib.Core.Logic.{⊎_elim}
+use Rattle.std.proofs.Common.{ℕ, List, [], ◌++◌, ◌+◌, ◌≤◌, ◌<◌, length, take, drop, append_assoc, Some, None, rules, arith}
+use lib.ListN.{length-append}
 use lib.Seq.{length-take-le, take-add, drop-append_seam}
 use borrow.Rule.Slice.PartMut.{put_mid, post_of}
+use Rattle.std.proofs.lemmas.Bool.{cases_lt}
 use Rattle.std.proofs.lemmas.List.{append-nil, take-append-le, drop-append-le}
 use Rattle.std.proofs.lemmas.Slice.{take-put_mid_below}
-use Rattle.std.specs.Prelude.{Option}
-use Rattle.std.specs.Io.KnownBytes.{Appends, Consumes}
+use Rattle.std.specs.Prelude.{Option, IfSome}
+use Rattle.std.specs.Io.KnownBytes.{Appends, Consumes, IsAtEnd}
 
 pub consumed : (a b c : Option (List ℕ)) (xs ys : List ℕ) → Consumes a b xs → Consumes b c ys → Consumes a c (xs ++ ys)
 consumed None b c xs ys h i = search rules
@@ -66,3 +69,21 @@ pub at_end : {total rest : List ℕ} {a b : Option (List ℕ)} → Saying total 
 at_end {a = a} {b} s e =
     let whole = s.is ∙ ap (λ l. s.said ++ l) e ∙ append-nil s.said in
     rw whole s.adds
+
+-- what was read is all that the reader had, or so much that what follows does not matter
+module _ {P : List ℕ → Type 0} (m : ℕ) (part : List ℕ) (same : (xs : List ℕ) → m < length part → m < length xs → P part → P xs) where
+  by_rest : (l rest : List ℕ) → l ≡ part ++ rest → (length part ≤ m → rest ≡ []) → P part → P l
+  by_rest l rest h e p =
+      ⊎_elim (λ (i : m < length part). same l i (omega (arith, i, ap length h, length-append part rest)) p)
+      (λ (i : length part ≤ m). rw (h ∙ ap (λ x. part ++ x) (e i) ∙ append-nil part) p) (cases_lt m (length part))
+
+  pub read_all : (old new : Option (List ℕ)) → Consumes old new part → (length part ≤ m → IsAtEnd new) → P part → IfSome old P
+  read_all None new h e p = search rules
+  read_all (Some l) None h e p = absurd h
+  read_all (Some l) (Some rest) h e p = by_rest l rest h e p
+
+-- a text of all that the reader had, where that is no more than m
+pub of_all : (text : List ℕ → List ℕ) (m : ℕ) (part : List ℕ) (a z old new : Option (List ℕ)) → Consumes old new part
+    → (length part ≤ m → IsAtEnd new) → Appends a z (text part) → IfSome old (λ xs. length xs ≤ m → Appends a z (text xs))
+of_all text m part a z old new h e w =
+    read_all {P = λ xs. length xs ≤ m → Appends a z (text xs)} m part (λ xs i j p k. absurd (omega (arith, j, k))) old new h e (λ _. w)

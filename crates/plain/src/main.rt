@@ -6,6 +6,7 @@ ghost use Rattle.std.specs.Io.KnownBytes.{Appends};
 ghost use Rattle.talk.specs.Script.{lines_of, talk};
 ghost use Rattle.plainsession.specs.Desk.{desk, spoken};
 ghost use Rattle.plainsession.specs.Ready.{Lent, Room};
+ghost use Rattle.plainsession.specs.Series.{plain_talk};
 
 use plainsession::{Standing, Stretch};
 use std::io;
@@ -54,6 +55,8 @@ fn with_file<R: Read, W: Write, E: Write>(
     to: &mut W,
     errors: &mut E,
 ) -> io::Result<()>
+    ensures { OnOk result (IfSome (R.remaining from.old) (λ script. length script ≤ 65536
+        → Appends (W.contents to.old) (W.contents to.new) (plain_talk file.now script).text)) }
 {
     let mut script = [0; 65537];
     let count = files::read_full(from, &mut script)?;

@@ -17,8 +17,7 @@ const RECORD: usize = plainrecord::LENGTH;
 const PAGE: usize = 4096;
 
 // Loads a console image into a lent memory and lent rights, and writes the record.
-#[unsafe(no_mangle)]
-pub extern "C" fn brenwythal_plain_load(
+pub fn brenwythal_plain_load(
     file: &[u8],
     memory: &mut [u8],
     rights: &mut [u8],
@@ -38,8 +37,7 @@ pub extern "C" fn brenwythal_plain_load(
 }
 
 // Runs at most `limit` instructions. The answer: stop, detail, finished.
-#[unsafe(no_mangle)]
-pub extern "C" fn brenwythal_plain_run(
+pub fn brenwythal_plain_run(
     words: &mut [u32],
     memory: &mut [u8],
     rights: &[u8],
@@ -68,8 +66,7 @@ pub extern "C" fn brenwythal_plain_run(
 }
 
 // "Host read fills a lent buffer".
-#[unsafe(no_mangle)]
-pub extern "C" fn brenwythal_plain_read(
+pub fn brenwythal_plain_read(
     words: &[u32],
     memory: &[u8],
     rights: &[u8],
@@ -92,8 +89,7 @@ pub extern "C" fn brenwythal_plain_read(
 }
 
 // "host write takes one".
-#[unsafe(no_mangle)]
-pub extern "C" fn brenwythal_plain_write(
+pub fn brenwythal_plain_write(
     words: &[u32],
     memory: &mut [u8],
     rights: &[u8],
@@ -116,8 +112,7 @@ pub extern "C" fn brenwythal_plain_write(
 }
 
 // The page view, copied into a buffer of 4096 bytes. The verdict is asked for by name only where the part is empty.
-#[unsafe(no_mangle)]
-pub extern "C" fn brenwythal_plain_view<'a>(
+pub fn brenwythal_plain_view<'a>(
     words: &[u32],
     memory: &'a [u8],
     rights: &'a [u8],
@@ -148,8 +143,7 @@ pub extern "C" fn brenwythal_plain_view<'a>(
 }
 
 // "Reply sets one of GPR 1 to 31."
-#[unsafe(no_mangle)]
-pub extern "C" fn brenwythal_plain_reply(words: &mut [u32], register: u32, value: u32) -> u32
+pub fn brenwythal_plain_reply(words: &mut [u32], register: u32, value: u32) -> u32
     ensures { promises.ReplyPromise words.old register value (record { returned = result; words = words.new }) }
 {
     if words.len() != RECORD {
@@ -165,8 +159,7 @@ pub extern "C" fn brenwythal_plain_reply(words: &mut [u32], register: u32, value
 }
 
 // Reads a console image. The answer: "ptl, start and frames as written".
-#[unsafe(no_mangle)]
-pub extern "C" fn brenwythal_plain_image(file: &[u8], answer: &mut [u32]) -> u32
+pub fn brenwythal_plain_image(file: &[u8], answer: &mut [u32]) -> u32
     ensures { ImagePromise file.now answer.old (record { returned = result; answer = answer.new }) }
 {
     imagewords::image_call(file, answer)

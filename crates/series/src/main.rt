@@ -1,11 +1,12 @@
 // `series IMAGE_FILE MAIN_PAGES`: a script of calls on standard input, done on a machine that the image is loaded into.
 #![tactic(auto)]
 
-ghost use Rattle.std.specs.Prelude.{◌≡◌, ◌≤◌, length, IfOk, OnOk};
+ghost use Rattle.std.specs.Prelude.{◌≡◌, ◌≤◌, length, IfOk, IfSome, OnOk};
 ghost use Rattle.std.specs.Io.KnownBytes.{Appends};
 ghost use Rattle.talk.specs.Script.{lines_of, talk};
 ghost use Rattle.session.specs.Desk.{desk, spoken};
 ghost use Rattle.session.specs.Ready.{Lent, Room};
+ghost use Rattle.session.specs.Series.{series_talk};
 
 use session::{Standing, Stretch};
 use std::io;
@@ -56,7 +57,10 @@ fn with_file<R: Read, W: Write, E: Write>(
     from: &mut R,
     to: &mut W,
     errors: &mut E,
-) -> io::Result<()> {
+) -> io::Result<()>
+    ensures { OnOk result (IfSome (R.remaining from.old) (λ script. length script ≤ 65536
+        → Appends (W.contents to.old) (W.contents to.new) (series_talk file.now pages script).text)) }
+{
     let mut script = [0; 65537];
     let count = files::read_full(from, &mut script)?;
     if 65536 < count {

@@ -1,61 +1,61 @@
 -- `go`: stretch after stretch, to the script's end.
-use mathlib.Core.Path.{◌≡◌, refl, sym, ◌∙◌}
-use Prim.Native.Nat.{◌-◌, ◌<◌}
+use mathlib.Core.Path.{◌≡◌, refl, sym, ap, ◌∙◌}
+use mathlib.Core.List.{List, []}
+use Prim.Native.Nat.{ℕ, ◌-◌, ◌<◌, ◌≤◌}
 use native.Mathlib.Omega.{arith}
-use lib.ListN.{length}
+use lib.ListN.{length, drop_of_length-le}
 use lib.Seq.{length-take-le}
 use Rattle.text.proofs.Appending.{within, length_appended}
+use Rattle.files.proofs.Known as known
+use Rattle.talk.specs.Script.{Talk, talk, lines_of}
+use Rattle.talk.specs.Stretch.{Point, on_from}
 use Rattle.talk.proofs.Going.{Going, starts, again, at_end}
-use Rattle.plainsession.specs.Desk.{desk, spoken}
-use Rattle.plainsession.specs.Ready.{Room, Lent}
+use Rattle.plainsession.specs.Desk.{Desk, desk, spoken}
 use Rattle.plainsession.specs.Script.{reached}
 use Rattle.plainsession.proofs.Roomy.{room_kept}
 use borrow.Author.Rules.{rules}
 use Rattle.plain.proofs.go.Goals as goal
 
 pub loop-at-init : goal.loop-at-init
-loop-at-init c = (starts spoken c.args.script.now _, c.requires.1, c.requires.0, refl, refl, refl)
+loop-at-init g c = record {
+  going = starts spoken c.args.script.now _;
+  saying = known.starts _ _;
+  lent = c.requires.1;
+  room = c.requires.0;
+  memory_as = refl;
+  rights_as = refl;
+  out_as = refl
+}
 
 pub speak-next-requires : goal.speak-next-requires
-speak-next-requires c =
-    let g = c.loop-at.invariant in
-    (g.2, g.1, c.requires.2, g.0.numbered)
-
-pub slice_bounds-write_all-end : goal.slice_bounds-write_all-end
-slice_bounds-write_all-end c = within c.speak-next.ensures.1.text
-
-pub slice_bounds-write_all-end-in-loop-at : goal.slice_bounds-write_all-end-in-loop-at
-slice_bounds-write_all-end-in-loop-at c =
-    let r = c.speak-next in sym (length-take-le r.result.filled _ (within r.ensures.1.text))
-
-pub loop-at-smaller : goal.loop-at-smaller
-loop-at-smaller c =
-    let r = c.speak-next in
-    let at = c.loop-at.at in
-    let on : at.place < r.result.place = r.ensures.1.moves c.loop-at-test.true in
-    omega (arith, on, c.loop-at-test.true)
+speak-next-requires g c =
+    let v = c.loop-at.invariant in
+    (v.room, v.lent, c.requires.2, v.going.numbered)
 
 pub loop-at-preserved : goal.loop-at-preserved
-loop-at-preserved c =
+loop-at-preserved g c =
     let r = c.speak-next in
-    let g = c.loop-at.invariant in
-    let said = length_appended r.ensures.1.text in (
-      again spoken _ _ g.0 r.ensures.1 r.ensures.0.1,
-      r.ensures.0.0,
-      room_kept g.2 r.auto.1.0 r.auto.1.1.0 said,
-      r.auto.1.0 ∙ g.3,
-      r.auto.1.1.0 ∙ g.4,
-      said ∙ g.5,
-    )
+    let v = c.loop-at.invariant in
+    let said = length_appended r.ensures.goes.text in
+    record {
+      going = again spoken _ _ v.going r.ensures.goes r.ensures.lent.1;
+      saying = known.again _ v.saying (ap (λ (t : Talk Desk). t.text) r.ensures.goes.talks) c.in_ok-write_all.ensures.bytes;
+      lent = r.ensures.lent.0;
+      room = room_kept v.room r.auto.memory r.auto.rights said;
+      memory_as = r.auto.memory ∙ v.memory_as;
+      rights_as = r.auto.rights ∙ v.rights_as;
+      out_as = said ∙ v.out_as
+    }
 
-pub shape_of-memory : goal.shape_of-memory
-shape_of-memory c = c.loop-at.invariant.3
+-- at the script's end nothing is left to be said
+nothing : (script : List ℕ) (q : Point Desk) → length script ≤ q.place → (on_from spoken script q).text ≡ []
+unfolding talk lines_of
+nothing script q h = rw (drop_of_length-le script h) refl
 
-pub shape_of-rights : goal.shape_of-rights
-shape_of-rights c = c.loop-at.invariant.4
+pub returns-clause-stands : goal.returns-clause-stands
+returns-clause-stands g c = at_end spoken _ _ c.loop-at.invariant.going (omega arith)
 
-pub shape_of-out : goal.shape_of-out
-shape_of-out c = c.loop-at.invariant.5
-
-pub returns : goal.returns
-returns c = at_end spoken _ _ c.loop-at.invariant.0 (omega arith)
+pub returns-clause-written : goal.returns-clause-written
+returns-clause-written g c =
+    let l = c.loop-at in
+    known.at_end l.invariant.saying (nothing c.args.script.now (reached l.at l.memory l.rights) (omega arith))

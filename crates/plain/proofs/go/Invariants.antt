@@ -1,21 +1,27 @@
--- `go`: stretch after stretch, to the script's end.
-use mathlib.Core.Path.{◌≡◌, refl, sym, ◌∙◌}
-use Prim.Native.Nat.{◌-◌, ◌<◌}
-use native.Mathlib.Omega.{arith}
+-- `go`: stretch after stretch, to the script's end; what is written so far and what is still to be said are together what was to be said.
+use mathlib.Core.Path.{◌≡◌}
+use Prim.Native.Nat.{◌-◌}
 use lib.ListN.{length}
-use lib.Seq.{length-take-le}
-use Rattle.text.proofs.Appending.{within, length_appended}
-use Rattle.talk.proofs.Going.{Going, starts, again, at_end}
+use Rattle.files.proofs.Known.{Saying}
+use Rattle.talk.specs.Script.{talk, lines_of}
+use Rattle.talk.specs.Stretch.{on_from}
+use Rattle.talk.proofs.Going.{Going}
 use Rattle.plainsession.specs.Desk.{desk, spoken}
 use Rattle.plainsession.specs.Ready.{Room, Lent}
 use Rattle.plainsession.specs.Script.{reached}
-use Rattle.plainsession.proofs.Roomy.{room_kept}
 use Rattle.plain.proofs.go.Given as goal
 
 abbrev pub invariant-loop-at : goal.invariant-loop-at
-invariant-loop-at l =
-    Going spoken l.script (desk l.initial.at.standing l.initial.memory l.initial.rights) (reached l.at l.memory l.rights) × Lent l.at.standing × Room l.memory l.rights l.out
-    × (length l.memory ≡ length l.initial.memory) × (length l.rights ≡ length l.initial.rights) × (length l.out ≡ length l.initial.out)
+invariant-loop-at g l = record {
+  going : Going spoken l.script (desk l.fn.first l.fn.memory l.fn.rights) (reached l.at l.memory l.rights);
+  saying : Saying (talk spoken 0 (desk l.fn.first l.fn.memory l.fn.rights) (lines_of l.script)).text
+      (g.W.Write.contents l.fn.to) (g.W.Write.contents l.to) (on_from spoken l.script (reached l.at l.memory l.rights)).text;
+  lent : Lent l.at.standing;
+  room : Room l.memory l.rights l.out;
+  memory_as : length l.memory ≡ length l.fn.memory;
+  rights_as : length l.rights ≡ length l.fn.rights;
+  out_as : length l.out ≡ length l.fn.out
+}
 
 abbrev pub decreases-loop-at : goal.decreases-loop-at
-decreases-loop-at l = length l.script - l.at.place
+decreases-loop-at g l = length l.script - l.at.place

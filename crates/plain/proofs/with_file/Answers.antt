@@ -1,26 +1,50 @@
--- `with_file`: the buffers have their lengths, and the script is short enough.
-use mathlib.Core.Path.{sym}
-use lib.Seq.{length-take-le}
-use Rattle.text.proofs.Appending.{within, length_appended}
-use Rattle.talk.proofs.Going.{short}
-use Rattle.plainsession.proofs.Roomy.{zeros, room_kept}
+-- `with_file`: what is written first and what the lines are answered are together the whole text.
+use mathlib.Core.Path.{◌≡◌, refl, sym, ap, ◌∙◌}
+use mathlib.Core.List.{List, ◌++◌}
+use Prim.Native.Nat.{ℕ, ◌<◌, ◌≤◌}
+use native.Mathlib.Omega.{arith}
+use lib.ListN.{length, take, replicate, length-replicate}
+use Rattle.std.specs.Prelude.{Bool, true, false, Option}
+use Rattle.std.specs.Io.KnownBytes.{Appends}
+use Rattle.text.proofs.Appending.{written}
+use Rattle.files.proofs.Known.{appended, of_all}
+use Rattle.talk.specs.Script.{Spoken, talk, talk_after, lines_of}
+use Rattle.plainsession.specs.Desk.{Desk, desk, spoken}
+use Rattle.plainsession.specs.Series.{begun_with, plain_talk}
 use borrow.Author.Rules.{rules}
 use Rattle.plain.proofs.with_file.Goals as goal
 
-pub begin-begun-requires : goal.begin-begun-requires
-begin-begun-requires c = zeros
+module _ (s : Spoken Desk) (script first : List ℕ) (on : Bool) (a b : Option (List ℕ)) (text_is : first ≡ s.text) (goes : on ≡ s.goes_on)
+    (h : Appends a b first) where
+  begun_alone : on ≡ false → Appends a b (talk_after spoken s script).text
+  begun_alone off = rw (sym goes ∙ off) (rw text_is at h)
 
-pub slice_bounds-out-end : goal.slice_bounds-out-end
-slice_bounds-out-end c = within c.begin-begun.ensures.0.text
+  and_on : (d : Desk) (z : Option (List ℕ)) → d ≡ s.desk → on ≡ true → Appends b z (talk spoken 0 d (lines_of script)).text
+      → Appends a z (talk_after spoken s script).text
+  and_on d z desk_is is_on i =
+      rw (sym goes ∙ is_on) (appended a b z s.text (talk spoken 0 s.desk (lines_of script)).text (rw text_is at h) (rw desk_is at i))
 
-pub slice_bounds-write_all-end : goal.slice_bounds-write_all-end
-slice_bounds-write_all-end c =
-    let r = c.begin-begun in sym (length-take-le r.result.filled _ (within r.ensures.0.text))
+-- the script was read to its end where it is not too long
+at_end : (count n m : ℕ) → count ≡ n → n ≤ 65536 → m ≡ 65537 → count < m
+at_end count n m h i j = omega arith
 
-pub go-requires : goal.go-requires
-go-requires c =
-    let r = c.begin-begun in (
-      room_kept zeros r.auto.1.0 r.auto.1.1.0 (length_appended r.ensures.0.text),
-      r.ensures.1,
-      short c.read_full-count.ensures.1 c.if-count-gt65536.false,
-    )
+pub returns-in_ok-go : goal.returns-in_ok-go
+unfolding plain_talk
+returns-in_ok-go g c =
+    let r = c.in_ok-count.ensures in
+    let b = c.begin-begun.ensures.begin_promise in
+    let script = take c.in_ok-count.count c.read_full.new.bytes in
+    of_all (λ xs. (talk_after spoken (begun_with c.args.file.now) xs).text) 65536 script _ _ _ _ r.read
+    (λ i. r.ended (at_end _ _ _ r.in_bounds.1 i ?))
+    (and_on (begun_with c.args.file.now) script _ _ _ _ (written b.text) b.goes c.in_ok-write_all.ensures.bytes _ _ b.desk_is c.if-begun.true
+    c.in_ok-go.ensures.written)
+
+pub returns-else-begun : goal.returns-else-begun
+unfolding plain_talk
+returns-else-begun g c =
+    let r = c.in_ok-count.ensures in
+    let b = c.begin-begun.ensures.begin_promise in
+    let script = take c.in_ok-count.count c.read_full.new.bytes in
+    of_all (λ xs. (talk_after spoken (begun_with c.args.file.now) xs).text) 65536 script _ _ _ _ r.read
+    (λ i. r.ended (at_end _ _ _ r.in_bounds.1 i ?))
+    (begun_alone (begun_with c.args.file.now) script _ _ _ _ (written b.text) b.goes c.in_ok-write_all.ensures.bytes c.if-begun.false)

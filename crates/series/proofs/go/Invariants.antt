@@ -13,8 +13,8 @@ use Rattle.series.proofs.go.Given as goal
 
 abbrev pub invariant-loop-at : goal.invariant-loop-at
 invariant-loop-at g l = record {
-  going : Going spoken l.script (desk l.first l.fn.main l.fn.swap) (reached l.at l.main l.swap);
-  saying : Saying (talk spoken 0 (desk l.first l.fn.main l.fn.swap) (lines_of l.script)).text
+  going : Going spoken l.script (desk l.fn.first l.fn.main l.fn.swap) (reached l.at l.main l.swap);
+  saying : Saying (talk spoken 0 (desk l.fn.first l.fn.main l.fn.swap) (lines_of l.script)).text
       (g.W.Write.contents l.fn.to) (g.W.Write.contents l.to) (on_from spoken l.script (reached l.at l.main l.swap)).text;
   lent : Lent l.at.standing;
   room : Room l.main l.swap l.out;

@@ -1,14 +1,14 @@
 -- What is read, or written, one after another.
 use mathlib.Core.Path.{◌≡◌, refl, sym, ap, ◌∙◌}
 use mathlib.Core.Logic.{⊎_elim}
-use Rattle.std.proofs.Common.{ℕ, List, [], ◌++◌, ◌+◌, ◌≤◌, ◌<◌, length, take, drop, append_assoc, Some, None, rules, arith}
+use Rattle.std.proofs.Common.{ℕ, List, [], ◌++◌, ◌+◌, ◌≤◌, ◌<◌, length, take, drop, append_assoc, Some, None, Ok, Err, OnOk, rules, arith}
 use lib.ListN.{length-append}
 use lib.Seq.{length-take-le, take-add, drop-append_seam}
 use borrow.Rule.Slice.PartMut.{put_mid, post_of}
 use Rattle.std.proofs.lemmas.Bool.{cases_lt}
 use Rattle.std.proofs.lemmas.List.{append-nil, take-append-le, drop-append-le}
 use Rattle.std.proofs.lemmas.Slice.{take-put_mid_below}
-use Rattle.std.specs.Prelude.{Option, IfSome}
+use Rattle.std.specs.Prelude.{Option, IfSome, Result}
 use Rattle.std.specs.Io.KnownBytes.{Appends, Consumes, IsAtEnd}
 
 pub consumed : (a b c : Option (List ℕ)) (xs ys : List ℕ) → Consumes a b xs → Consumes b c ys → Consumes a c (xs ++ ys)
@@ -87,3 +87,28 @@ pub of_all : (text : List ℕ → List ℕ) (m : ℕ) (part : List ℕ) (a z old
     → (length part ≤ m → IsAtEnd new) → Appends a z (text part) → IfSome old (λ xs. length xs ≤ m → Appends a z (text xs))
 of_all text m part a z old new h e w =
     read_all {P = λ xs. length xs ≤ m → Appends a z (text xs)} m part (λ xs i j p k. absurd (omega (arith, j, k))) old new h e (λ _. w)
+
+-- a text of the first m + 1 bytes of what the reader had, or of all of it: a longer input has the same text
+of_first : (text : List ℕ → List ℕ) (m : ℕ) (part : List ℕ) (a z old new : Option (List ℕ)) → Consumes old new part
+    → (length part ≤ m → IsAtEnd new) → ((xs ys : List ℕ) → m < length xs → m < length ys → text xs ≡ text ys) → Appends a z (text part)
+    → IfSome old (λ xs. Appends a z (text xs))
+of_first text m part a z old new h e same w =
+    read_all {P = λ xs. Appends a z (text xs)} m part (λ xs i j p. rw (same part xs i j) at p) old new h e w
+
+-- where the last thing written is what decides
+pub of_last : {T E : Type 0} (r : Result T E) (text : List ℕ → List ℕ) (m : ℕ) (part end : List ℕ) (a z old new : Option (List ℕ))
+    → Consumes old new part → (length part ≤ m → IsAtEnd new) → ((xs ys : List ℕ) → m < length xs → m < length ys → text xs ≡ text ys)
+    → end ≡ text part → OnOk r (Appends a z end) → OnOk r (IfSome old (λ xs. Appends a z (text xs)))
+of_last (Ok x) text m part end a z old new h e same is w = of_first text m part a z old new h e same (rw is at w)
+of_last (Err x) text m part end a z old new h e same is w = search rules
+
+-- where something was written before it
+pub of_earlier : {T E : Type 0} (r : Result T E) (text : List ℕ → List ℕ) (m : ℕ) (part end : List ℕ) (a z old new : Option (List ℕ))
+    → Consumes old new part → (length part ≤ m → IsAtEnd new) → ((xs ys : List ℕ) → m < length xs → m < length ys → text xs ≡ text ys)
+    → end ≡ text part → Appends a z end → OnOk r (IfSome old (λ xs. Appends a z (text xs)))
+of_earlier (Ok x) text m part end a z old new h e same is w = of_first text m part a z old new h e same (rw is at w)
+of_earlier (Err x) text m part end a z old new h e same is w = search rules
+
+-- the reader is at its end where a buffer has room left
+pub ends : (n k size m : ℕ) → n ≡ k → k ≤ m → size ≡ m + 1 → n < size
+ends n k size m h i j = omega arith

@@ -2,10 +2,19 @@
 // longer input is known. A refusal is said on standard error, by which the front door knows it: refused words are no failure of the program.
 #![tactic(auto)]
 
+ghost use Rattle.std.specs.Prelude.{IfSome, OnOk, replicate, take};
+ghost use Rattle.std.specs.Io.KnownBytes.{Appends};
+ghost use Rattle.workshop.specs.Programs.{list_work};
+
 use std::io;
 use std::io::{Read, Write};
 
-fn list<R: Read, W: Write, E: Write>(from: &mut R, to: &mut W, errors: &mut E) -> io::Result<()> {
+fn list<R: Read, W: Write, E: Write>(from: &mut R, to: &mut W, errors: &mut E) -> io::Result<()>
+    ensures written { OnOk result (IfSome (R.remaining from.old) (λ words. Appends (W.contents to.old) (W.contents to.new)
+        (take (list_work words (replicate 294912 0)).length (list_work words (replicate 294912 0)).out))) }
+    ensures said { OnOk result (IfSome (R.remaining from.old) (λ words. Appends (E.contents errors.old) (E.contents errors.new)
+        (list_work words (replicate 294912 0)).line)) }
+{
     let mut input = [0; 65537];
     let length = files::read_full(from, &mut input)?;
     let mut out = [0; 294912];

@@ -7,7 +7,7 @@ use lib.ListN.{length, take, replicate, length-replicate}
 use Rattle.std.specs.Prelude.{Bool, true, false, Option}
 use Rattle.std.specs.Io.KnownBytes.{Appends}
 use Rattle.text.proofs.Appending.{written}
-use Rattle.files.proofs.Known.{appended, of_all}
+use Rattle.files.proofs.Known.{appended, of_all, ends}
 use Rattle.talk.specs.Script.{Spoken, talk, talk_after, lines_of}
 use Rattle.session.specs.Desk.{Desk, desk, spoken}
 use Rattle.session.specs.Series.{begun_with, series_talk}
@@ -24,10 +24,6 @@ module _ (s : Spoken Desk) (script first : List ℕ) (on : Bool) (a b : Option (
   and_on d z desk_is is_on i =
       rw (sym goes ∙ is_on) (appended a b z s.text (talk spoken 0 s.desk (lines_of script)).text (rw text_is at h) (rw desk_is at i))
 
--- the script was read to its end where it is not too long
-at_end : (count n m : ℕ) → count ≡ n → n ≤ 65536 → m ≡ 65537 → count < m
-at_end count n m h i j = omega arith
-
 pub returns-in_ok-go : goal.returns-in_ok-go
 unfolding series_talk
 returns-in_ok-go g c =
@@ -35,7 +31,7 @@ returns-in_ok-go g c =
     let b = c.begin-begun.ensures.begin_promise in
     let script = take c.in_ok-count.count c.read_full.new.bytes in
     of_all (λ xs. (talk_after spoken (begun_with c.args.file.now c.args.pages) xs).text) 65536 script _ _ _ _ r.read
-    (λ i. r.ended (at_end _ _ _ r.in_bounds.1 i ?))
+    (λ i. r.ended (ends _ _ _ 65536 r.in_bounds.1 i (c.read_full.auto.bytes ∙ length-replicate {A = ℕ} 65537 0)))
     (and_on (begun_with c.args.file.now c.args.pages) script _ _ _ _ (written b.text) b.goes c.in_ok-write_all.ensures.bytes _ _ b.desk_is c.if-begun.true
     c.in_ok-go.ensures.written)
 
@@ -46,5 +42,5 @@ returns-else-begun g c =
     let b = c.begin-begun.ensures.begin_promise in
     let script = take c.in_ok-count.count c.read_full.new.bytes in
     of_all (λ xs. (talk_after spoken (begun_with c.args.file.now c.args.pages) xs).text) 65536 script _ _ _ _ r.read
-    (λ i. r.ended (at_end _ _ _ r.in_bounds.1 i ?))
+    (λ i. r.ended (ends _ _ _ 65536 r.in_bounds.1 i (c.read_full.auto.bytes ∙ length-replicate {A = ℕ} 65537 0)))
     (begun_alone (begun_with c.args.file.now c.args.pages) script _ _ _ _ (written b.text) b.goes c.in_ok-write_all.ensures.bytes c.if-begun.false)

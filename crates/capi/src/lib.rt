@@ -1,6 +1,6 @@
-// The calls for hosts in C and Rust, on numbers and lent slices only: brenwythal.h says what each does. None asks anything of its
-// caller, and each names its complete outcome. The crate `record` says what the words of a record are; they are written back only
-// where they may differ.
+// The calls for hosts in C and Rust, on numbers and lent slices only: brenwythal.h says what each does, and the crate `capi_c` exports
+// them. None asks anything of its caller, and each names its complete outcome. The crate `record` says what the words of a record are;
+// they are written back only where they may differ.
 #![tactic(auto)]
 
 mod answer_sizes;

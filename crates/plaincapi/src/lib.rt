@@ -1,6 +1,6 @@
-// The plain engine's calls for hosts in C and Rust, on numbers and lent slices only: brenwythal_plain.h says what each does. None asks
-// anything of its caller, and each names its complete outcome. The crate `plainrecord` says what the words of a record are; they are
-// written back only where they may differ.
+// The plain engine's calls for hosts in C and Rust, on numbers and lent slices only: brenwythal_plain.h says what each does, and the
+// crate `plaincapi_c` exports them. None asks anything of its caller, and each names its complete outcome. The crate `plainrecord` says
+// what the words of a record are; they are written back only where they may differ.
 #![tactic(auto)]
 
 mod answer_words;

@@ -1,0 +1,2 @@
+-- What `compare` writes.
+pub mod Closed

@@ -67,7 +67,7 @@ module _ (file : List ℕ) (pages : ℕ) (script : List ℕ) where
       by (Refused q) e = ap (λ (n : ImageNumbers). refused_line n.verdict.refused) e
 
 -- what is lent is a part of arrays of zeros
-pub zeros : (k n : ℕ) → k ≤ n → replicate k 0 ≡ take k (replicate n 0)
+pub zeros : (k n : ℕ) → k ≤ n → replicate {A = ℕ} k 0 ≡ take k (replicate n 0)
 zeros k n h = sym (take-replicate {X = ℕ} k n 0 h)
 
 pub begun_zeros : (file : List ℕ) (pages ptl : ℕ) → ptl ≡ ptl_of file → ptl ≤ 64 → pages ≤ 64

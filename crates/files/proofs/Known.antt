@@ -88,6 +88,12 @@ pub of_all : (text : List ℕ → List ℕ) (m : ℕ) (part : List ℕ) (a z old
 of_all text m part a z old new h e w =
     read_all {P = λ xs. length xs ≤ m → Appends a z (text xs)} m part (λ xs i j p k. absurd (omega (arith, j, k))) old new h e (λ _. w)
 
+pub of_all_last : {T E : Type 0} (r : Result T E) (text : List ℕ → List ℕ) (m : ℕ) (part end : List ℕ) (a z old new : Option (List ℕ))
+    → Consumes old new part → (length part ≤ m → IsAtEnd new) → end ≡ text part → OnOk r (Appends a z end)
+    → OnOk r (IfSome old (λ xs. length xs ≤ m → Appends a z (text xs)))
+of_all_last (Ok x) text m part end a z old new h e is w = of_all text m part a z old new h e (rw is at w)
+of_all_last (Err x) text m part end a z old new h e is w = search rules
+
 -- a text of the first m + 1 bytes of what the reader had, or of all of it: a longer input has the same text
 of_first : (text : List ℕ → List ℕ) (m : ℕ) (part : List ℕ) (a z old new : Option (List ℕ)) → Consumes old new part
     → (length part ≤ m → IsAtEnd new) → ((xs ys : List ℕ) → m < length xs → m < length ys → text xs ≡ text ys) → Appends a z (text part)

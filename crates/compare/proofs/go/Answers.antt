@@ -22,7 +22,8 @@ loop-at-init g c =
     let d = desk a.first a.main.now a.swap.now a.memory.now a.rights.now in
     record {
       going = subst (λ (n : ℕ). Going spoken a.script.now d (point n d 0)) (sym c.requires.1) (starts spoken a.script.now d);
-      saying = ?;
+      saying = subst (λ (n : ℕ). known.Saying (talk spoken 0 d (lines_of a.script.now)).text (g.W.Write.contents a.to.now)
+        (g.W.Write.contents a.to.now) (on_from spoken a.script.now (point n d 0)).text) (sym c.requires.1) (known.starts _ _);
       stands = c.requires.0;
       lengths = as_they_were a.main.now a.swap.now a.memory.now;
       out_as = refl

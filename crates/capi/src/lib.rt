@@ -18,12 +18,7 @@ const RECORD: usize = record::LENGTH;
 const PAGE: usize = 4096;
 
 // Loads a console image into lent memories and writes the record of a fresh machine.
-pub fn brenwythal_load(
-    file: &[u8],
-    main: &mut [u8],
-    swap: &mut [u8],
-    words: &mut [u32],
-) -> u32
+pub fn brenwythal_load(file: &[u8], main: &mut [u8], swap: &mut [u8], words: &mut [u32]) -> u32
     ensures { promises.LoadPromise file.now main.old swap.old words.old
         (record { returned = result; words = words.new; main = main.new; swap = swap.new }) }
 {
@@ -67,13 +62,7 @@ pub fn brenwythal_run(
 }
 
 // "Host read fills a lent buffer".
-pub fn brenwythal_read(
-    words: &[u32],
-    main: &[u8],
-    swap: &[u8],
-    va: u32,
-    into: &mut [u8],
-) -> u32
+pub fn brenwythal_read(words: &[u32], main: &[u8], swap: &[u8], va: u32, into: &mut [u8]) -> u32
     ensures { promises.ReadPromise words.now main.now swap.now va into.old
         (record { returned = result; buffer = into.new }) }
 {

@@ -157,18 +157,33 @@ fn main(rt: HostRuntime) -> io::Result<()> {
     let mut name = [0; 4096];
     let mut word = [0; 4096];
     if !files::has_argument(&rt, 2) || files::has_argument(&rt, 3) {
-        return fail(&mut errors, b"usage: compare IMAGE_FILE MAIN_PAGES < SCRIPT\n");
+        return fail(
+            &mut errors,
+            b"usage: compare IMAGE_FILE MAIN_PAGES < SCRIPT\n",
+        );
     }
     let digits = files::argument(&rt, 2, &mut word);
     let Part::Number { value, next } = reading::number_at(&word[..digits], 0, 4294967295) else {
-        return fail(&mut errors, b"compare: MAIN_PAGES is a decimal number below 2^32\n");
+        return fail(
+            &mut errors,
+            b"compare: MAIN_PAGES is a decimal number below 2^32\n",
+        );
     };
     if next != digits {
-        return fail(&mut errors, b"compare: MAIN_PAGES is a decimal number below 2^32\n");
+        return fail(
+            &mut errors,
+            b"compare: MAIN_PAGES is a decimal number below 2^32\n",
+        );
     }
     let length = files::argument(&rt, 1, &mut name);
     match files::open_read(&rt, &name[..length]) {
-        Ok(mut file) => with_descriptor(&mut file, value, &mut rt.stdin(), &mut rt.stdout(), &mut errors),
+        Ok(mut file) => with_descriptor(
+            &mut file,
+            value,
+            &mut rt.stdin(),
+            &mut rt.stdout(),
+            &mut errors,
+        ),
         Err(error) => files::fail(&mut errors, b"compare: the image", error),
     }
 }

@@ -2,14 +2,12 @@
 use mathlib.Core.Path.{◌≡◌, refl, sym, ap, ◌∙◌}
 use mathlib.Core.List.{List}
 use Prim.Native.Nat.{ℕ, ◌<◌}
-use native.Mathlib.Omega.{arith}
 use lib.ListN.{length, take, replicate, length-replicate}
 use lib.Seq.{length-take-le}
 use Rattle.text.proofs.Appending.{written}
 use Rattle.files.proofs.Known.{of_last, of_earlier, ends}
 use Rattle.workshop.specs.Programs.{Work, asm_work}
 use Rattle.workshop.proofs.Works.{text_long, asm_inside}
-use borrow.Author.Rules.{rules}
 use Rattle.asm.proofs.asm.Goals as goal
 
 abbrev zeros : List ℕ

@@ -23,10 +23,10 @@ loop-at-init g c =
     record {
       going = subst (λ (n : ℕ). Going spoken a.script.now d (point n d 0)) (sym c.requires.1) (starts spoken a.script.now d);
       saying = subst (λ (n : ℕ). known.Saying (talk spoken 0 d (lines_of a.script.now)).text (g.W.Write.contents a.to.now)
-        (g.W.Write.contents a.to.now) (on_from spoken a.script.now (point n d 0)).text) (sym c.requires.1) (known.starts _ _);
+          (g.W.Write.contents a.to.now) (on_from spoken a.script.now (point n d 0)).text) (sym c.requires.1) (known.starts _ _);
       stands = c.requires.0;
       lengths = as_they_were a.main.now a.swap.now a.memory.now;
-      out_as = refl
+      out_as = refl;
     }
 
 pub speak-next-requires : goal.speak-next-requires
@@ -43,7 +43,7 @@ loop-at-preserved g c =
       saying = known.again _ v.saying (ap (λ (t : Talk Desk). t.text) r.ensures.goes.talks) c.in_ok-write_all.ensures.bytes;
       stands = r.ensures.stands.0;
       lengths = kept v.lengths r.auto.main r.auto.swap r.auto.memory;
-      out_as = length_appended r.ensures.goes.text ∙ v.out_as
+      out_as = length_appended r.ensures.goes.text ∙ v.out_as;
     }
 
 -- at the script's end nothing is left to be said

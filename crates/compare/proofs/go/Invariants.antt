@@ -23,7 +23,7 @@ invariant-loop-at g l = record {
       (on_from spoken l.script (reached (desk l.at.standing l.main l.swap l.memory l.rights) l.at.place)).text;
   stands : Stands (state l.at.standing.machine l.main l.swap) l.memory;
   lengths : Lengths l.fn.main l.fn.swap l.fn.memory l.main l.swap l.memory;
-  out_as : length l.out ≡ length l.fn.out
+  out_as : length l.out ≡ length l.fn.out;
 }
 
 abbrev pub decreases-loop-at : goal.decreases-loop-at

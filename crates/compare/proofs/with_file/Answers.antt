@@ -82,7 +82,7 @@ returns-in-Image g c =
     of_all_last _ (compare_text c.args.file.now c.args.pages) 65536 script _ _ _ _ _ r.read
     (λ i. r.ended (ends _ _ _ 65536 r.in_bounds.1 i (c.read_full.auto.bytes ∙ length-replicate {A = ℕ} 65537 0)))
     (sym (
-      text_granted c.args.file.now c.args.pages script c.in-Image.ensures
-      ∙ ap (λ (s : Spoken Desk). closed (talk_after spoken s script))
-      (begun_zeros c.args.file.now c.args.pages c.in-Image.ptl image.0.ptl_is image.1 image.2)
+    text_granted c.args.file.now c.args.pages script c.in-Image.ensures
+    ∙ ap (λ (s : Spoken Desk). closed (talk_after spoken s script))
+    (begun_zeros c.args.file.now c.args.pages c.in-Image.ptl image.0.ptl_is image.1 image.2)
     )) c.compare.ensures

@@ -1,16 +1,14 @@
 -- `console`: what is written is the text of all that is read; a longer input is refused by its length alone.
-use mathlib.Core.Path.{◌≡◌, refl, sym, ◌∙◌}
+use mathlib.Core.Path.{◌≡◌, sym, ◌∙◌}
 use mathlib.Core.List.{List}
 use Prim.Native.Nat.{ℕ, ◌<◌}
-use native.Mathlib.Omega.{arith}
 use borrow.Author.Tests.{lt-leb}
 use lib.ListN.{length, length-replicate}
 use Rattle.model.specs.Answers.{refusal_number}
 use Rattle.model.specs.Console.{refused_line, console_verdict, console_text}
 use Rattle.model.specs.declared.Refusal.TheVariants.{Room}
-use Rattle.text.proofs.Appending.{written, within}
+use Rattle.text.proofs.Appending.{written}
 use Rattle.files.proofs.Known.{of_last, ends}
-use borrow.Author.Rules.{rules}
 use Rattle.console.proofs.console.Goals as goal
 
 longer : (l : List ℕ) → 17436 < length l → console_text l ≡ refused_line (refusal_number Room)

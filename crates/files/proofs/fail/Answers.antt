@@ -1,5 +1,5 @@
 -- `fail`: the line's four parts, one after another.
-use Rattle.std.proofs.Common.{rules, ◌≡◌, ℕ, List, [], ◌∷◌, ◌++◌, OnOk, Ok, Err}
+use Rattle.std.proofs.Common.{rules, ℕ, List, [], ◌∷◌, OnOk, Ok, Err}
 use Rattle.std.specs.Prelude.{Option, Result}
 use Rattle.std.specs.Io.KnownBytes.{Appends}
 use Rattle.files.specs.Said.{SaysWhy}

@@ -9,7 +9,7 @@ invariant-loop-done g l = record {
   within : l.done ≤ length l.bytes;
   long : length l.bytes ≡ length l.fn.bytes;
   kept : take l.first l.bytes ≡ take l.first l.fn.bytes;
-  read : Consumes (g.R.Read.remaining l.fn.reader) (g.R.Read.remaining l.reader) (drop l.first (take l.done l.bytes))
+  read : Consumes (g.R.Read.remaining l.fn.reader) (g.R.Read.remaining l.reader) (drop l.first (take l.done l.bytes));
 }
 
 abbrev pub decreases-loop-done : goal.decreases-loop-done

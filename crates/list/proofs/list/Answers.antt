@@ -2,14 +2,12 @@
 use mathlib.Core.Path.{◌≡◌, refl, sym, ap, ◌∙◌}
 use mathlib.Core.List.{List}
 use Prim.Native.Nat.{ℕ, ◌<◌}
-use native.Mathlib.Omega.{arith}
 use lib.ListN.{length, take, replicate, length-replicate}
 use lib.Seq.{length-take-le}
 use Rattle.text.proofs.Appending.{written}
 use Rattle.files.proofs.Known.{of_last, of_earlier, ends}
 use Rattle.workshop.specs.Programs.{Work, list_work}
 use Rattle.workshop.proofs.Works.{words_long, list_inside}
-use borrow.Author.Rules.{rules}
 use Rattle.list.proofs.list.Goals as goal
 
 abbrev zeros : List ℕ

@@ -24,7 +24,7 @@ loop-at-init g c = record {
   room = c.requires.0;
   memory_as = refl;
   rights_as = refl;
-  out_as = refl
+  out_as = refl;
 }
 
 pub speak-next-requires : goal.speak-next-requires
@@ -44,7 +44,7 @@ loop-at-preserved g c =
       room = room_kept v.room r.auto.memory r.auto.rights said;
       memory_as = r.auto.memory ∙ v.memory_as;
       rights_as = r.auto.rights ∙ v.rights_as;
-      out_as = said ∙ v.out_as
+      out_as = said ∙ v.out_as;
     }
 
 -- at the script's end nothing is left to be said

@@ -20,7 +20,7 @@ invariant-loop-at g l = record {
   room : Room l.memory l.rights l.out;
   memory_as : length l.memory ≡ length l.fn.memory;
   rights_as : length l.rights ≡ length l.fn.rights;
-  out_as : length l.out ≡ length l.fn.out
+  out_as : length l.out ≡ length l.fn.out;
 }
 
 abbrev pub decreases-loop-at : goal.decreases-loop-at

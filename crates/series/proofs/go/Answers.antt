@@ -24,7 +24,7 @@ loop-at-init g c = record {
   room = c.requires.0;
   main_as = refl;
   swap_as = refl;
-  out_as = refl
+  out_as = refl;
 }
 
 pub speak-next-requires : goal.speak-next-requires
@@ -44,7 +44,7 @@ loop-at-preserved g c =
       room = room_kept v.room r.auto.main r.auto.swap said;
       main_as = r.auto.main ∙ v.main_as;
       swap_as = r.auto.swap ∙ v.swap_as;
-      out_as = said ∙ v.out_as
+      out_as = said ∙ v.out_as;
     }
 
 -- at the script's end nothing is left to be said

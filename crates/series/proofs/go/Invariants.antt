@@ -20,7 +20,7 @@ invariant-loop-at g l = record {
   room : Room l.main l.swap l.out;
   main_as : length l.main ≡ length l.fn.main;
   swap_as : length l.swap ≡ length l.fn.swap;
-  out_as : length l.out ≡ length l.fn.out
+  out_as : length l.out ≡ length l.fn.out;
 }
 
 abbrev pub decreases-loop-at : goal.decreases-loop-at

@@ -1,10 +1,10 @@
 -- What is written first, what the lines are answered and the end are together all that the definition says.
 use mathlib.Core.Path.{◌≡◌, refl, sym, ap, ◌∙◌}
-use mathlib.Core.List.{List, [], ◌++◌}
+use mathlib.Core.List.{List, ◌++◌}
 use Prim.Native.Nat.{ℕ, ◌*◌, ◌≤◌}
 use native.Mathlib.Omega.{arith}
 use lib.ListN.{take, replicate}
-use Rattle.std.specs.Prelude.{Bool, true, false, Option}
+use Rattle.std.specs.Prelude.{true, false, Option}
 use Rattle.std.specs.Io.KnownBytes.{Appends}
 use Rattle.std.proofs.Common.{append_assoc}
 use Rattle.std.proofs.lemmas.List.{append-nil, take-replicate}
@@ -19,7 +19,7 @@ use Rattle.model.specs.declared.Verdict.TheVariants.{Granted, Refused}
 use Rattle.laws.proofs.Granted.{refused}
 use Rattle.session.specs.Series.{admits}
 use Rattle.files.proofs.Known.{appended}
-use Rattle.talk.specs.Script.{Spoken, Talk, talk, talk_after, behind, lines_of}
+use Rattle.talk.specs.Script.{Spoken, Talk, talk, talk_after, lines_of}
 use Rattle.comparison.specs.Desk.{Desk}
 use Rattle.comparison.specs.Line.{spoken}
 use Rattle.comparison.specs.Begun.{admitted, begun}

@@ -1,10 +1,10 @@
 -- `go`: stretch after stretch, to the script's end.
 use mathlib.Core.Path.{◌≡◌, refl, sym, ap, subst, ◌∙◌}
 use mathlib.Core.List.{List, []}
-use Prim.Native.Nat.{ℕ, ◌-◌, ◌<◌, ◌≤◌}
+use Prim.Native.Nat.{ℕ, ◌≤◌}
 use native.Mathlib.Omega.{arith}
 use lib.ListN.{length, drop_of_length-le}
-use Rattle.text.proofs.Appending.{within, length_appended}
+use Rattle.text.proofs.Appending.{length_appended}
 use Rattle.files.proofs.Known as known
 use Rattle.talk.specs.Script.{Talk, talk, lines_of}
 use Rattle.talk.specs.Stretch.{Point, point, on_from}
@@ -13,7 +13,6 @@ use Rattle.comparison.specs.Desk.{Desk, desk}
 use Rattle.comparison.specs.Line.{spoken}
 use Rattle.comparison.specs.Script.{reached}
 use Rattle.comparison.proofs.Reached.{as_they_were, kept}
-use borrow.Author.Rules.{rules}
 use Rattle.compare.proofs.go.Goals as goal
 
 pub loop-at-init : goal.loop-at-init

@@ -1,6 +1,5 @@
 -- `with_file`: what is lent lies within the arrays, which are zeros, and the script is short enough; all that is written is the definition's.
 use mathlib.Core.Path.{◌≡◌, sym, ap, ◌∙◌}
-use mathlib.Core.List.{List}
 use Prim.Native.Nat.{ℕ, ◌*◌, ◌≤◌}
 use native.Mathlib.Omega.{arith}
 use lib.ListN.{length, take, replicate, length-replicate}
@@ -14,7 +13,6 @@ use Rattle.comparison.specs.Line.{spoken}
 use Rattle.comparison.specs.Compare.{closed, compare_text}
 use Rattle.comparison.proofs.Begun.{image_admitted}
 use Rattle.compare.proofs.Closed.{text_granted, text_refused, begun_zeros}
-use borrow.Author.Rules.{rules}
 use Rattle.compare.proofs.with_file.Goals as goal
 
 -- a part of an array of zeros

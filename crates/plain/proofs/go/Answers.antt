@@ -1,19 +1,17 @@
 -- `go`: stretch after stretch, to the script's end.
-use mathlib.Core.Path.{◌≡◌, refl, sym, ap, ◌∙◌}
+use mathlib.Core.Path.{◌≡◌, refl, ap, ◌∙◌}
 use mathlib.Core.List.{List, []}
-use Prim.Native.Nat.{ℕ, ◌-◌, ◌<◌, ◌≤◌}
+use Prim.Native.Nat.{ℕ, ◌≤◌}
 use native.Mathlib.Omega.{arith}
 use lib.ListN.{length, drop_of_length-le}
-use lib.Seq.{length-take-le}
-use Rattle.text.proofs.Appending.{within, length_appended}
+use Rattle.text.proofs.Appending.{length_appended}
 use Rattle.files.proofs.Known as known
 use Rattle.talk.specs.Script.{Talk, talk, lines_of}
 use Rattle.talk.specs.Stretch.{Point, on_from}
-use Rattle.talk.proofs.Going.{Going, starts, again, at_end}
-use Rattle.plainsession.specs.Desk.{Desk, desk, spoken}
+use Rattle.talk.proofs.Going.{starts, again, at_end}
+use Rattle.plainsession.specs.Desk.{Desk, spoken}
 use Rattle.plainsession.specs.Script.{reached}
 use Rattle.plainsession.proofs.Roomy.{room_kept}
-use borrow.Author.Rules.{rules}
 use Rattle.plain.proofs.go.Goals as goal
 
 pub loop-at-init : goal.loop-at-init

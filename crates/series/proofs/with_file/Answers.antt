@@ -1,17 +1,15 @@
 -- `with_file`: what is written first and what the lines are answered are together the whole text.
-use mathlib.Core.Path.{◌≡◌, refl, sym, ap, ◌∙◌}
-use mathlib.Core.List.{List, ◌++◌}
-use Prim.Native.Nat.{ℕ, ◌<◌, ◌≤◌}
-use native.Mathlib.Omega.{arith}
-use lib.ListN.{length, take, replicate, length-replicate}
+use mathlib.Core.Path.{◌≡◌, sym, ◌∙◌}
+use mathlib.Core.List.{List}
+use Prim.Native.Nat.{ℕ}
+use lib.ListN.{take, length-replicate}
 use Rattle.std.specs.Prelude.{Bool, true, false, Option}
 use Rattle.std.specs.Io.KnownBytes.{Appends}
 use Rattle.text.proofs.Appending.{written}
 use Rattle.files.proofs.Known.{appended, of_all, ends}
 use Rattle.talk.specs.Script.{Spoken, talk, talk_after, lines_of}
-use Rattle.session.specs.Desk.{Desk, desk, spoken}
+use Rattle.session.specs.Desk.{Desk, spoken}
 use Rattle.session.specs.Series.{begun_with, series_talk}
-use borrow.Author.Rules.{rules}
 use Rattle.series.proofs.with_file.Goals as goal
 
 module _ (s : Spoken Desk) (script first : List ℕ) (on : Bool) (a b : Option (List ℕ)) (text_is : first ≡ s.text) (goes : on ≡ s.goes_on)

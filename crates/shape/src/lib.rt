@@ -9,6 +9,7 @@ ghost use Rattle.shape.specs.Lengths.{lengths_fit};
 use model::Shape;
 
 // "Main memory: exactly P pages", "Swap: .. length exactly 4096·(sbase+ptl)". In 64 bits no sum goes round.
+#[tactic(auto, using(crate::proofs::Facts::lengths_broken))]
 fn lengths_fit(s: Shape, main: usize, swap: usize) -> bool
     ensures { result ≡ lengths_fit s main swap }
 {
@@ -22,6 +23,7 @@ fn lengths_fit(s: Shape, main: usize, swap: usize) -> bool
 }
 
 // The tests in the document's order.
+#[tactic(auto, using(crate::proofs::Facts::bounds_broken))]
 pub fn fits(s: Shape, main: &[u8], swap: &[u8]) -> bool
     ensures { result ≡ soundness.fits s (memory main.now swap.now) }
 {

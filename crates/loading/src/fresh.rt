@@ -16,6 +16,7 @@ pub(crate) fn meant(frames: u32) -> u32
 }
 
 // "Swap must be 4096·ptl bytes; main memory 3 to 64 whole pages, at least 1+frames."
+#[tactic(auto, using(crate::proofs::Roomy::rules_broken))]
 pub(crate) fn room(frames: u32, ptl: u32, main: usize, swap: usize) -> bool
     ensures { result ≡ image.room frames ptl main swap }
 {

@@ -19,14 +19,16 @@ use Rattle.host.specs.declared.home.Home.{Home}
 use Rattle.host.specs.declared.home.Home.TheVariants.{Main, Swap}
 use Rattle.host.specs.Home.{home_of}
 
+-- ---- by the entry of va's page
+module _ (s : Shape) (main : List ℕ) (va : ℕ) where
+  pub home_main : entry s main (page_of va) % 2 ≡ 1 → home_of s main va ≡ Main (main_at (ppx (entry s main (page_of va))) (offset va))
+  unfolding home_of
+  home_main v = simp (eq-eqb _ _ v)
+
 -- ---- by the entry e of va's page x
 module _ (s : Shape) (main : List ℕ) (va : ℕ) (x : VirtualPage) (hx : x ≡ page_of va) (e : ℕ) (he : e ≡ entry s main x) where
   is : e ≡ entry s main (page_of va)
   is = he ∙ ap (entry s main) hx
-
-  pub home_main : (i : ℕ) → e % 2 ≡ 1 → (p : MainPage) → p ≡ ppx e → i ≡ main_at p (offset va) → Main i ≡ home_of s main va
-  unfolding home_of
-  home_main i v p hp hi = simp (← is, eq-eqb _ _ v, hi, hp)
 
   pub home_swap : (i : ℕ) → (e % 2 ≡ 1 → ⊥) → (p : SwapPage) → p ≡ swap_of s x → i ≡ swap_at p (offset va) → Swap i ≡ home_of s main va
   unfolding home_of

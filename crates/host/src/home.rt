@@ -14,6 +14,7 @@ pub enum Home {
     Swap(usize),
 }
 
+#[tactic(auto, using(crate::proofs::Where::home_main))]
 pub fn home_of(s: Shape, main: &[u8], va: u32) -> Home
     requires { Fit s (length main.now) × ((page_of va).0 < s.ptl) }
     ensures { result ≡ home_of s main.now va }

@@ -20,6 +20,7 @@ fn mark_for(s: Shape, main: &[u8], va: u32, marks: u32) -> u32
 }
 
 // n bytes from va on lie in the pages of the first and of the last of them.
+#[tactic(auto, using(crate::proofs::Where::mark_none))]
 pub fn marks_for(s: Shape, main: &[u8], va: u32, n: usize, marks: u32) -> u32
     requires { Safe s main.now × InTable s va n × (n ≤ 256) }
     ensures { result ≡ calls.marks_for s main.now va n marks }

@@ -1,11 +1,8 @@
 -- `marks::marks_for`: the pages of the first byte and of the last are those of all.
 use Prim.Native.Nat.{◌-◌}
 use native.Mathlib.Omega.{arith}
-use Rattle.host.proofs.Where.{mark_none, mark_ends}
+use Rattle.host.proofs.Where.{mark_ends}
 use Rattle.host.proofs.marks.marks_for.Goals as goal
-
-pub returns-then-n-eq0 : goal.returns-then-n-eq0
-returns-then-n-eq0 c = mark_none _ _ _ _ _ (omega arith)
 
 pub overflow_add-last : goal.overflow_add-last
 overflow_add-last c =

@@ -63,6 +63,7 @@ pub fn number(s: &[u8], at: usize, most: u32) -> Parsed
 }
 
 // "each value kept in 32 bits signed": v is 2^32 more than the value, and `at` where the value's text begins.
+#[tactic(auto, using(crate::proofs::Ways::kept_high))]
 fn kept(at: usize, v: u64, next: usize) -> Parsed
     ensures { result ≡ sums.kept at v next }
 {

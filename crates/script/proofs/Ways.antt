@@ -66,6 +66,10 @@ module _ (l : List ℕ) (at : ℕ) where
       unfolding hex_behind pairs
       hex_even k o = simp (h, ← e, eq-eqb end (length l) k, eq-eqb ((end - (at + 1)) % 2) 0 o)
 
+pub hex_unpaired : (l : List ℕ) (first at end : ℕ) {b : Bool} → b ≡ is_space (get_or l at 0) → b ≡ true → end ≡ hex_end l (at + 1)
+    → end ≡ length l → ((end - (at + 1)) % 2 ≡ 0 → ⊥) → Unfit (end + 1) ≡ hex_behind l first at
+hex_unpaired l first at end s h e k o = hex_odd l at first (sym s ∙ h) end e k o
+
 -- ---- the line's end
 module _ (l : List ℕ) (first second end : ℕ) where
   pub goes_on : (end ≡ length l → ⊥) → Unfit (end + 1) ≡ ended l first second end

@@ -75,6 +75,7 @@ fn two_numbers(line: &[u8], at: usize, most: u32, second: u32) -> Parts
 }
 
 // The number is read already; HEX is "pairs of hex digits (possibly none)", to the line's end.
+#[tactic(auto, using(crate::proofs::Ways::hex_unpaired))]
 fn hex_behind(line: &[u8], first: u32, next: usize) -> Parts
     requires { next ≤ length line.now }
     ensures { result ≡ parts.hex_behind line.now first next }

@@ -2,7 +2,7 @@
 use mathlib.Core.Path.{sym, ◌∙◌}
 use native.Mathlib.Omega.{arith}
 use Rattle.text.proofs.Bounds.{space_inside}
-use Rattle.script.proofs.Ways.{hex_no_space, hex_stops, hex_odd, hex_even}
+use Rattle.script.proofs.Ways.{hex_no_space, hex_stops, hex_even}
 use borrow.Author.Rules.{rules}
 use Rattle.script.proofs.parts.hex_behind.Goals as goal
 
@@ -18,11 +18,6 @@ pub returns-then-end-line : goal.returns-then-end-line
 returns-then-end-line c =
     hex_stops _ _ _ (sym c.space_at.ensures ∙ c.if-not-space_at.false) _ c.hex_end-end.ensures.0
     (search rules)
-
-pub returns-then-end-start-ne0 : goal.returns-then-end-start-ne0
-returns-then-end-start-ne0 c =
-    hex_odd _ _ _ (sym c.space_at.ensures ∙ c.if-not-space_at.false) _ c.hex_end-end.ensures.0
-    (search rules) (search rules)
 
 pub returns : goal.returns
 returns c =

@@ -234,6 +234,11 @@ module _ (limit : ℕ) (c₀ : Counted) (s : Shape) (b : FrameBook) (swap : List
       let e : f + n + 1 ≡ f + suc n = omega arith in
       subst (λ (k : ℕ). Running limit c₀ (note i (put (at a) q g m)) k) e (stored_on limit c₀ (at a) (f + n) v (omega (arith, h)) q i g m is)
 
+-- ---- a leg leaves no more than it was given
+pub left_few : (r : Leg) (limit left : ℕ) (s : Shape) (g₀ : List ℕ) (p₀ : Pcs) (m₀ g m : List ℕ) → ((marks : ℕ) → Walked s (spot g₀ p₀ m₀ marks) left r g m)
+    → left ≤ limit → r.left ≤ limit
+left_few r limit left s g₀ p₀ m₀ g m w few = omega (arith, few, (w 0).few)
+
 -- ---- as the code has it: a leg r of at most `left` instructions, which leaves the registers g, main memory m and these marks
 module _ (limit : ℕ) (c₀ : Counted) (s : Shape) (b : FrameBook) (swap : List ℕ) (l k : ℕ) (g₀ : List ℕ) (p₀ : Pcs) (m₀ : List ℕ) (left : ℕ) (few : left ≤ limit)
     (u : Running limit c₀ (counted s b g₀ p₀ m₀ swap l k) (limit - left)) (r : Leg) (g m : List ℕ) (w : (marks : ℕ) → Walked s (spot g₀ p₀ m₀ marks) left r g m)

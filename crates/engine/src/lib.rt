@@ -111,6 +111,7 @@ fn leg_from(g: &mut [u32; 32], p: Pcs, s: Shape, main: &mut [u8], n: u32) -> Leg
 
 // Each turn of the loop is one leg. The test before a load bounds the loop and never ends it: no instruction of a sound machine has a
 // third load.
+#[tactic(auto, using(crate::proofs::Running::left_few))]
 pub fn go(
     s: Shape,
     b: FrameBook,

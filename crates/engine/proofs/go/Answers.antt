@@ -104,6 +104,3 @@ overflow_sub-limit-in-Trapped c = omega (arith, (c.leg_from-l.ensures 0).few, c.
 
 pub overflow_add-limit : goal.overflow_add-limit
 overflow_add-limit c = omega (arith, c.requires.1)
-
-pub overflow_sub-limit-in-Stopped : goal.overflow_sub-limit-in-Stopped
-overflow_sub-limit-in-Stopped c = omega (arith, (c.leg_from-l.ensures 0).few, c.loop-left.invariant.0)

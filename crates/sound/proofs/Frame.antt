@@ -52,3 +52,19 @@ module _ (s : Shape) (used : ℕ) (held main : List ℕ) where
 
       pub seat_there : e % 2 ≡ 1 → (ppx e).0 ≡ (frame_at s i).0 → seated s b main i ≡ true
       seat_there v q = rw (← its) (and_both _ _ (eq-eqb (e % 2) 1 v) (eq-eqb (ppx e).0 (frame_at s i).0 q))
+
+-- ---- the ways out at frame i, by what the code finds there
+module _ (s : Shape) (used hand marks : ℕ) (held main : List ℕ) (i : ℕ) (q : i < used) where
+  abbrev Said : Type 0
+  Said = false ≡ (held_in_table s.ptl (book_of used hand held marks) && frames_seated s (book_of used hand held marks) main)
+
+  pub beyond_way : s.ptl ≤ get_or held i 0 → Said
+  beyond_way h = page_beyond s used held main i q h
+
+  pub invalid_way : (entry s main (virtual (get_or held i 0)) % 2 ≡ 1 → ⊥) → Said
+  invalid_way n = seat_invalid s used held main i _ refl _ refl q n
+
+  pub other_way : ((ppx (entry s main (virtual (get_or held i 0)))).0 ≡ (frame_at s i).0 → ⊥) → Said
+  other_way n = seat_other s used held main i _ refl _ refl q n
+
+pub ruleset unseated_ways = (beyond_way, invalid_way, other_way)

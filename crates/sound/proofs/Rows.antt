@@ -1,7 +1,7 @@
 -- The tests of soundness as code runs them, one after the other.
 use mathlib.Core.Path.{◌≡◌, refl, sym}
 use mathlib.Core.Bool.{Bool, true, false, ◌&&◌, and-true}
-use mathlib.Core.List.{◌∷◌}
+use mathlib.Core.List.{◌∷◌, List}
 use Prim.Native.Nat.{ℕ, ◌≤◌, ◌<◌}
 use borrow.Author.Tests.{eq-eqb, ne_eqb, le-leb, lt-leb}
 use lib.Dec.{eqb}
@@ -10,6 +10,10 @@ use Rattle.model.specs.Choice.{passes}
 use Rattle.model.specs.Sound.{book_tests, sound, held_in_table, all_different, rest_zero, frames_seated, hand_right, marks_right, frames_clean}
 use Rattle.model.specs.State.{Memory}
 use Rattle.model.specs.declared.Machine.{Machine}
+use Rattle.book.specs.Numbers.{book_of}
+use Rattle.sound.specs.Lean.{whole}
+use Rattle.sound.specs.declared.Lean.{Lean}
+use native.Mathlib.Omega.{arith}
 use Rattle.laws.proofs.Choice.{and_left, and_right, pass_not}
 use Rattle.sound.specs.Count.{valid_below}
 use Rattle.sound.proofs.Count.{only_these, not_only}
@@ -54,3 +58,18 @@ module _ (r : Machine) (m : Memory) where
         let t = and_left held _ h in
         let s = and_right held _ h in
         simp (eq-eqb _ _ z, le-leb _ _ u, t, d, n, s, only_these r.shape r.book m.main t d s e, k, q, and-true)
+
+-- ---- the ways out of the machine with these parts, by what its tests come to
+module _ (l : Lean) (words : List ℕ) (m : Memory) where
+  pub zero_wrong : 0 < l.zero → false ≡ sound (whole l words) m
+  zero_wrong h = gpr_not (whole l words) m (λ e. omega (arith, h, e))
+
+  pub used_wrong : l.shape.frames < l.used → false ≡ sound (whole l words) m
+  used_wrong h = used_not (whole l words) m h
+
+  pub count_wrong : all_different (book_of l.used l.hand words l.marks) ≡ true
+      → (held_in_table l.shape.ptl (book_of l.used l.hand words l.marks) && frames_seated l.shape (book_of l.used l.hand words l.marks) m.main) ≡ true
+      → (valid_below l.shape m.main l.shape.ptl ≡ l.used → ⊥) → false ≡ sound (whole l words) m
+  count_wrong d h n = count_not (whole l words) m d h n
+
+pub ruleset unsound_ways = (zero_wrong, used_wrong, count_wrong)

@@ -38,6 +38,7 @@ pub fn lean_of(m: Machine) -> Lean
 
 // "A machine is sound when": each test for a machine that passed those before it. As each B[i] is seated and all are different, no
 // other entry is valid exactly where there are b valid ones. The pages are compared last, which takes the most time.
+#[tactic(auto, using(crate::proofs::Rows::unsound_ways))]
 pub fn sound(l: Lean, held: &[u32], main: &[u8], swap: &[u8]) -> bool
     requires { Fit l.shape (length main.now) × SwapLong l.shape (length swap.now) × (length held.now ≡ 32) }
     ensures { result ≡ soundness.sound (whole l held.now) (memory main.now swap.now) }

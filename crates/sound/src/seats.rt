@@ -9,6 +9,7 @@ use model::Shape;
 use paging::{pages, table};
 
 // "B[0..b−1] are below ptl", "the entry of B[i] is valid with ppx abase+i"
+#[tactic(auto, using(crate::proofs::Frame::unseated_ways))]
 pub(crate) fn frames_seated(s: Shape, used: u32, held: &[u32], main: &[u8]) -> bool
     requires { Fit s (length main.now) × (used ≤ 32) × (length held.now ≡ 32) }
     ensures { (hand marks : ℕ) → result ≡ (tests.held_in_table s.ptl (book_of used hand held.now marks)

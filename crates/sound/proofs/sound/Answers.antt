@@ -5,18 +5,8 @@ use native.Mathlib.Omega.{arith}
 use Rattle.laws.proofs.Choice.{and_left}
 use Rattle.sound.specs.Lean.{whole}
 use Rattle.sound.proofs.Loops.{failed, passed}
-use Rattle.sound.proofs.Rows.{unsound, gpr_not, used_not, seats_not, count_not, sound_so_far}
+use Rattle.sound.proofs.Rows.{unsound, seats_not, sound_so_far}
 use Rattle.sound.proofs.sound.Goals as goal
-
-pub returns-then-l-ne0 : goal.returns-then-l-ne0
-returns-then-l-ne0 c =
-    let a = c.args in
-    gpr_not (whole a.l a.held.now) _ (λ z. omega (arith, z))
-
-pub returns-then-l-s : goal.returns-then-l-s
-returns-then-l-s c =
-    let a = c.args in
-    used_not (whole a.l a.held.now) _ (omega arith)
 
 pub returns-then-not-all_different : goal.returns-then-not-all_different
 returns-then-not-all_different c =
@@ -33,12 +23,6 @@ returns-then-not-frames_seated c =
     let a = c.args in
     seats_not (whole a.l a.held.now) _ (failed _ _ (c.frames_seated.ensures a.l.hand a.l.marks) (ap not c.if-not-frames_seated.true))
 
-pub returns-then-valid_entries-l : goal.returns-then-valid_entries-l
-returns-then-valid_entries-l c =
-    let a = c.args in
-    count_not (whole a.l a.held.now) _ (passed _ _ (c.all_different.ensures a.l.hand a.l.marks) (ap not c.if-not-all_different.false))
-    (passed _ _ (c.frames_seated.ensures a.l.hand a.l.marks) (ap not c.if-not-frames_seated.false)) (λ e. omega (arith, c.valid_entries.ensures, e))
-
 pub returns-then-not-hand_right : goal.returns-then-not-hand_right
 returns-then-not-hand_right c =
     let a = c.args in
@@ -46,7 +30,7 @@ returns-then-not-hand_right c =
 
 pub marks_right-requires : goal.marks_right-requires
 marks_right-requires c =
-    omega (arith, c.if-l-s.false, c.requires.0.frames_most)
+    omega (arith, c.requires.0.frames_most)
 
 pub returns-then-not-marks_right : goal.returns-then-not-marks_right
 returns-then-not-marks_right c =
@@ -57,7 +41,7 @@ pub frames_clean-requires : goal.frames_clean-requires
 frames_clean-requires c = (
   c.requires.0,
   c.requires.1,
-  omega (arith, c.if-l-s.false),
+  omega arith,
   c.requires.2,
   λ hand marks. and_left _ _ (passed _ _ (c.frames_seated.ensures hand marks) (ap not c.if-not-frames_seated.false)),
 )
@@ -67,7 +51,7 @@ returns c =
     let a = c.args in
     c.frames_clean.ensures a.l.hand
     ∙ sound_so_far (whole a.l a.held.now) _ (passed _ _ (c.all_different.ensures a.l.hand a.l.marks) (ap not c.if-not-all_different.false))
-    (passed _ _ (c.frames_seated.ensures a.l.hand a.l.marks) (ap not c.if-not-frames_seated.false)) (omega (arith, c.if-l-ne0.false)) (omega (arith, c.if-l-s.false))
-    (passed _ _ (c.rest_zero.ensures a.l.hand a.l.marks) (ap not c.if-not-rest_zero.false)) (omega (arith, c.valid_entries.ensures, c.if-valid_entries-l.false))
+    (passed _ _ (c.frames_seated.ensures a.l.hand a.l.marks) (ap not c.if-not-frames_seated.false)) (omega arith) (omega arith)
+    (passed _ _ (c.rest_zero.ensures a.l.hand a.l.marks) (ap not c.if-not-rest_zero.false)) (omega (arith, c.valid_entries.ensures))
     (passed _ _ (c.hand_right.ensures a.held.now a.l.marks) (ap not c.if-not-hand_right.false))
     (passed _ _ (c.marks_right.ensures a.l.hand a.held.now) (ap not c.if-not-marks_right.false))

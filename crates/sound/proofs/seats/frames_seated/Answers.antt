@@ -2,32 +2,15 @@
 use mathlib.Core.Path.{ap}
 use native.Mathlib.Omega.{arith}
 use Rattle.sound.proofs.Loops.{none_yet, one_more, all_passed}
-use Rattle.sound.proofs.Frame.{both_pass, page_within, page_beyond, seat_invalid, seat_other, seat_there}
+use Rattle.sound.proofs.Frame.{both_pass, page_within, seat_there}
 use borrow.Author.Rules.{rules}
 use Rattle.sound.proofs.seats.frames_seated.Goals as goal
 
 pub loop-f-init : goal.loop-f-init
 loop-f-init c = (search rules, none_yet _, none_yet _)
 
-pub returns-then-x-s : goal.returns-then-x-s
-returns-then-x-s c =
-    let a = c.args in
-    λ hand marks. page_beyond a.s a.used a.held.now a.main.now c.loop-f.f (search rules) (search rules)
-
 pub entry-e-requires : goal.entry-e-requires
 entry-e-requires c = (search rules, omega (arith, ap (λ p. p.0) c.virtual_page.ensures))
-
-pub returns-then-e-ne1 : goal.returns-then-e-ne1
-returns-then-e-ne1 c =
-    let a = c.args in
-    λ hand marks. seat_invalid a.s a.used a.held.now a.main.now c.loop-f.f _ c.virtual_page.ensures _ c.entry-e.ensures (search rules) (λ v. omega (arith, v))
-
-pub returns-then-p-q : goal.returns-then-p-q
-returns-then-p-q c =
-    let a = c.args in
-    let p = ap (λ p. p.0) c.ppx-p.ensures in
-    let f = ap (λ p. p.0) c.frame_at-q.ensures in
-    λ hand marks. seat_other a.s a.used a.held.now a.main.now c.loop-f.f _ c.virtual_page.ensures _ c.entry-e.ensures (search rules) (λ q. omega (arith, p, f, q))
 
 pub loop-f-preserved : goal.loop-f-preserved
 loop-f-preserved c =

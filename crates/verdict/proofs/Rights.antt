@@ -62,6 +62,11 @@ module _ (s : Shape) (main : List ℕ) (writing : Bool) where
               same_test r (every_below n (λ i. legal (translate s main writing (va + i)))) (λ k. every_from n _ (by_end (sym q ∙ k)))
               (λ k. q ∙ ap (λ u. legal (translate s main writing u)) at ∙ every_at n _ k (n - 1) (omega arith))
 
+-- by the tests of the first byte and of the last
+pub by_ends : (s : Shape) (main : List ℕ) (writing : Bool) (va n : ℕ) → not (legal (translate s main writing va)) ≡ false → 0 < n → n ≤ 256
+    → permitted writing s main va n ≡ legal (translate s main writing (va + (n - 1)))
+by_ends s main writing va n e some most = sym (by_last s main writing va n _ refl e some most _ refl _ refl)
+
 -- ---- a view
 module _ (s : Shape) (main : List ℕ) (x : VirtualPage) where
   pub not_viewable : s.ptl ≤ x.0 → false ≡ viewable s main x

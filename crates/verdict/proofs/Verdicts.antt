@@ -1,9 +1,9 @@
 -- Each verdict by its ways out, in the order 1, 2, 4, 3.
-use mathlib.Core.Path.{◌≡◌, sym, ap, ◌∙◌}
-use mathlib.Core.Bool.{Bool, true, false, not}
+use mathlib.Core.Path.{◌≡◌, refl, sym, ap, ◌∙◌}
+use mathlib.Core.Bool.{Bool, true, false, not, and-false}
 use mathlib.Core.List.{List, ◌∷◌}
 use Prim.Native.Nat.{ℕ, ◌≤◌, ◌<◌}
-use lib.Dec.{eqb, leb}
+use lib.Dec.{eqb}
 use lib.ListN.{length, get_or}
 use borrow.Author.Tests.{le-leb, lt-leb, not-true, not-false}
 use Rattle.model.specs.State.{State, state, memory}
@@ -74,6 +74,17 @@ module _ (p : State) (v : Verdict) (e : v ≡ machine_verdict p Granted) where
     pub passed_fit : Fit p.machine.shape (length p.memory.main)
     passed_fit = (fit_of p.machine.shape p.memory (machine_granted p Granted (sym e ∙ h)).0).0
 
+-- ---- a run of the machine m, handed in parts
+module _ (m : Machine) (main swap : List ℕ) (n : ℕ) (l : Lean) (held : List ℕ) (e : Granted ≡ machine_verdict (state (whole l held) main swap) Granted)
+    (hl : l ≡ record { shape = m.shape; used = m.book.used; hand = m.book.hand; marks = m.book.marks; zero = get_or m.gpr 0 0 }) (hh : held ≡ numbers_of m.book.held) where
+  pub short_run : n ≤ 1000000 → run_verdict (state m main swap) n ≡ Granted
+  short_run q = sym (run_short _ _ (of_whole m main swap l hl held hh _ e) refl n q)
+
+  pub long_run : 1000000 < n → run_verdict (state m main swap) n ≡ Refused TooMuch
+  long_run q = sym (run_long _ _ (of_whole m main swap l hl held hh _ e) refl n q)
+
+pub ruleset runs = (short_run, long_run)
+
 -- ---- refusals 4 and 3 of a transfer
 module _ (writing : Bool) (s : Shape) (main : List ℕ) (va n : ℕ) where
   pub too_much : 256 < n → Refused TooMuch ≡ transfer_verdict writing s main va n
@@ -82,12 +93,18 @@ module _ (writing : Bool) (s : Shape) (main : List ℕ) (va n : ℕ) where
   pub by_rights : n ≤ 256 → (r : Bool) → r ≡ permitted writing s main va n → unless r Rights Granted ≡ transfer_verdict writing s main va n
   by_rights h r e = simp (le-leb _ _ h, ← e)
 
--- ---- refusal 4 of a reply, by what its test b comes to
+-- ---- refusal 4 of a reply
 module _ (i : ℕ) where
-  pub by_most : 1 ≤ i → (b : Bool) → b ≡ leb i 31 → unless b TooMuch Granted ≡ reply_verdict i
+  pub by_most : 1 ≤ i → i ≤ 31 → reply_verdict i ≡ Granted
   unfolding reply_verdict
-  by_most h b e = simp (le-leb _ _ h, e)
+  by_most h k = simp (le-leb _ _ h, le-leb _ _ k)
 
-  pub below_least : i < 1 → (b : Bool) → b ≡ leb 1 i → unless b TooMuch Granted ≡ reply_verdict i
+  pub below_least : i < 1 → reply_verdict i ≡ Refused TooMuch
   unfolding reply_verdict
-  below_least h b e = simp (lt-leb _ _ h, e)
+  below_least h = simp (lt-leb _ _ h)
+
+  pub above_most : 31 < i → reply_verdict i ≡ Refused TooMuch
+  unfolding reply_verdict
+  above_most h = simp (lt-leb _ _ h, and-false)
+
+pub ruleset replies = (by_most, below_least, above_most)

@@ -48,6 +48,7 @@ fn machine_verdict(l: Lean, held: &[u32], main: &[u8], swap: &[u8]) -> Verdict
 
 // Refusal 4 of a run: "0 to 1,000,000 instructions". Its last test is written out because the run's loop is inlined behind it, and
 // is one to three machine instructions shorter so.
+#[tactic(auto, using(crate::proofs::Verdicts::runs))]
 pub fn run_verdict(m: Machine, main: &[u8], swap: &[u8], limit: u32) -> Verdict
     ensures { result ≡ calls.run_verdict (state m main.now swap.now) limit }
 {
@@ -64,6 +65,7 @@ pub fn run_verdict(m: Machine, main: &[u8], swap: &[u8], limit: u32) -> Verdict
 }
 
 // Refusals 4 and 3 of a transfer of n bytes: "0 to 256 bytes", "all pages need r, or w".
+#[tactic(auto, using(crate::proofs::Verdicts::too_much))]
 fn transfer_verdict(s: Shape, main: &[u8], writing: bool, va: u32, n: usize) -> Verdict
     requires { Fit s (length main.now) }
     ensures { result ≡ calls.transfer_verdict writing s main.now va n }
@@ -109,6 +111,7 @@ pub fn view_verdict(m: Machine, main: &[u8], swap: &[u8], page: VirtualPage) -> 
 }
 
 // Refusal 4 of a reply: "register not 1 to 31".
+#[tactic(auto, using(crate::proofs::Verdicts::replies))]
 pub fn reply_verdict(register: u32) -> Verdict
     ensures { result ≡ calls.reply_verdict register }
 {

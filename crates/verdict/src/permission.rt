@@ -18,6 +18,7 @@ fn legal(a: Access) -> bool
 }
 
 // "all pages need r, or w": n bytes lie in the pages of the first and of the last of them.
+#[tactic(auto, using(crate::proofs::Rights::by_ends))]
 pub(crate) fn permitted(s: Shape, main: &[u8], writing: bool, va: u32, n: usize) -> bool
     requires { Fit s (length main.now) × (n ≤ 256) }
     ensures { result ≡ calls.permitted writing s main.now va n }

@@ -3,8 +3,7 @@ use mathlib.Core.Bool.{not}
 use mathlib.Core.Path.{ap, ◌∙◌}
 use native.Mathlib.Omega.{arith}
 use Rattle.model.specs.Translate.{legal}
-use Rattle.verdict.proofs.Rights.{permitted_none, first_refused, first_inside, by_last}
-use borrow.Author.Rules.{rules}
+use Rattle.verdict.proofs.Rights.{permitted_none, first_refused, first_inside}
 use Rattle.verdict.proofs.permission.permitted.Goals as goal
 
 pub returns-then-n-eq0 : goal.returns-then-n-eq0
@@ -18,8 +17,3 @@ pub overflow_add-last : goal.overflow_add-last
 overflow_add-last c =
     let a = c.args in
     omega (arith, first_inside _ _ _ _ a.n _ (c.legal.ensures ∙ ap legal c.locate.ensures) (ap not c.if-not-legal.false))
-
-pub returns : goal.returns
-returns c =
-    by_last _ _ _ _ _ _ (c.legal.ensures ∙ ap legal c.locate.ensures) (ap not c.if-not-legal.false) (omega arith) (search rules) _ (omega arith)
-    _ (c.legal-2.ensures ∙ ap legal c.locate-2.ensures)

@@ -1,5 +1,5 @@
 -- `check`: the lines before `at` are good, and counted.
-use mathlib.Core.Path.{◌≡◌, refl, sym, ap, ◌∙◌}
+use mathlib.Core.Path.{◌≡◌, sym, ap, ◌∙◌}
 use mathlib.Core.List.{List}
 use Prim.Native.Nat.{ℕ, ◌-◌}
 use native.Mathlib.Omega.{arith}
@@ -24,7 +24,7 @@ overflow_add-result-in-Wrong c =
 
 pub returns-in-Wrong : goal.returns-in-Wrong
 returns-in-Wrong c =
-    count_bad c.loop-at.invariant (omega arith) (line_read c.args.text.now c.loop-at.at c.line_end-end.result c.line_end-end.ensures.0 c.in-Wrong.ensures) refl refl
+    count_bad c.loop-at.invariant (omega arith) (line_read c.args.text.now c.loop-at.at c.line_end-end.result c.line_end-end.ensures.0 c.in-Wrong.ensures) (omega arith) (omega arith)
 
 pub loop-at-preserved : goal.loop-at-preserved
 loop-at-preserved c =

@@ -124,3 +124,11 @@ module _ (l : List ℕ) where
     pub granted_memory : with_others ptl (loaded_memory (load_call l (lent_pages ptl m))) m ≡ console_memory l m
     unfolding console_memory
     granted_memory = ap (λ n. with_others n (loaded_memory (load_call l (lent_pages n m))) m) is ∙ ap (λ v. image_memory v l m) (sym e)
+
+-- ---- an input that is too long
+module _ (l : List ℕ) where
+  pub long_text : 17436 < length l → console_text l ≡ refused_line (refusal_number Room)
+  long_text h = sym (refused_text l Room (too_long l h))
+
+  pub long_memory : (m : Memory) → 17436 < length l → console_memory l m ≡ m
+  long_memory m h = sym (refused_memory l Room (too_long l h) m)

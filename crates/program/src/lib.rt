@@ -67,6 +67,7 @@ fn load_and_run(input: &[u8], main: &mut [u8], swap: &mut [u8], out: &mut [u8]) 
 
 // "The program reads an image of at most 4 pages and 17,436 bytes from standard input, uses five main pages". "A longer input prints
 // `refused 7` by its length alone. Otherwise a ptl above 4 prints `refused 7`, unless 5 or 6 applies."
+#[tactic(auto, using(crate::proofs::Printed::long_text, crate::proofs::Printed::long_memory))]
 pub fn console(input: &[u8], main: &mut [u8], swap: &mut [u8], out: &mut [u8]) -> usize
     requires { (length main.old ≡ 20480) × (length swap.old ≡ 16384) × (128 ≤ length out.old) }
     ensures { ConsolePromise input.now (memory main.old swap.old) out.old

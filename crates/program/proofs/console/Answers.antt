@@ -6,14 +6,8 @@ use lib.Seq.{length-take-le}
 use Rattle.model.specs.State.{memory}
 use Rattle.model.specs.Console.{with_others}
 use Rattle.text.proofs.Appending.{same}
-use Rattle.program.proofs.Printed.{too_long, not_image, is_ptl, many_pages, few_pages, refused_text, refused_memory, granted_text, granted_memory}
+use Rattle.program.proofs.Printed.{not_image, is_ptl, many_pages, few_pages, refused_text, refused_memory, granted_text, granted_memory}
 use Rattle.program.proofs.console.Goals as goal
-
-pub returns-then-input-gt17436 : goal.returns-then-input-gt17436
-returns-then-input-gt17436 c =
-    let input = c.args.input.now in
-    let v = too_long input (omega arith) in
-    (same c.refuse.ensures (refused_text input _ v), refused_memory input _ v _)
 
 pub returns-then-ptl-gt4 : goal.returns-then-ptl-gt4
 returns-then-ptl-gt4 c =

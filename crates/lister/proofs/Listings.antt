@@ -1,5 +1,5 @@
 -- A listing, word by word: a line more, the room of a line, and whether what is left fits.
-use mathlib.Core.Bool.{true, false}
+use mathlib.Core.Bool.{Bool, true, false}
 use mathlib.Core.Path.{◌≡◌, refl, sym, ap, ap₂, ◌∙◌}
 use mathlib.Core.List.{List, [], ◌∷◌, ◌++◌, append_assoc}
 use Prim.Native.Nat.{ℕ, ◌+◌, ◌-◌, ◌*◌, ◌/◌, ◌≤◌, ◌<◌}
@@ -81,3 +81,8 @@ module _ {ws : List ℕ} {i w : ℕ} (s : Stands ws i w) where
 
     pub line_over : left ≤ n → false ≡ leb (length (listing (drop i ws))) left
     line_over h = sym (lt-leb (length (listing (drop i ws))) left (omega (arith, line_first)))
+
+-- the words behind a line that does not fit do not fit
+pub words_over : (bytes : List ℕ) (i w n left : ℕ) {b : Bool} → i < length bytes / 4 → w ≡ number 4 bytes (4 * i) → n ≡ 0 + length (listed w)
+    → left ≤ n → leb (length (listing (drop i (words_of bytes)))) left ≡ b → false ≡ b
+words_over bytes i w n left h e p l k = line_over (stands bytes i w h e) n left p l ∙ k

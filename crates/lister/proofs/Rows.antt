@@ -38,3 +38,8 @@ module _ (w row : ℕ) (e : row ≡ row_place (is_keyed w)) where
   pub by_name : row < 49 → filled (row_at row).pieces (row_at row).base w ≡ w
       → (row_at row).name ++ 32 ∷ pieces_text (row_at row).pieces w ≡ listed w
   by_name h n = sym (by_row_lem h ∙ as_row w (row_at row) n)
+
+-- the line of a word whose fields are not the whole of it
+pub unfilled : (w : ℕ) → (row_place (is_keyed w) ≡ 49 → ⊥)
+    → (filled (row_at (row_place (is_keyed w))).pieces (row_at (row_place (is_keyed w))).base w ≡ w → ⊥) → listed w ≡ digits 9 w
+unfilled w n h = sym (not_filled w (row_place (is_keyed w)) refl (a_row w (row_place (is_keyed w)) refl n) h)

@@ -15,6 +15,7 @@ use model::Refusal;
 use notation::ListAnswer;
 
 // Whether the listing takes at most `room` bytes. No line takes more than 18.
+#[tactic(auto, using(crate::proofs::Listings::words_over))]
 fn fits(t: &[u64; NUMBERS], bytes: &[u8], room: usize) -> bool
     requires { Tabled t.now }
     ensures { result ≡ leb (length (listing (words_of bytes.now))) room }

@@ -90,6 +90,7 @@ fn put_pieces(out: &mut [u8], at: usize, t: &[u64; NUMBERS], row: usize, w: u32)
 }
 
 // A word's line, without its newline.
+#[tactic(auto, using(crate::proofs::Rows::unfilled))]
 pub(crate) fn put(out: &mut [u8], at: usize, t: &[u64; NUMBERS], w: u32) -> usize
     requires { rows.Tabled t.now × (at + 80 ≤ length out.old) }
     ensures { Appended out.old at out.new result (listing.listed w) }

@@ -6,7 +6,7 @@ use borrow.Author.Tests.{le-leb}
 use Rattle.notation.specs.Listing.{listing}
 use Rattle.notation.specs.Calls.{words_of}
 use Rattle.text.proofs.Appending.{length_appended}
-use Rattle.lister.proofs.Listings.{words_length, stands, all_fit, line_fits, line_over}
+use Rattle.lister.proofs.Listings.{words_length, stands, all_fit, line_fits}
 use Rattle.grammar.proofs.Short.{listing_short}
 use Rattle.lister.proofs.fits.Goals as goal
 
@@ -28,14 +28,6 @@ pub put-n-requires : goal.put-n-requires
 put-n-requires c =
     (c.requires, omega (arith, c.loop-i.invariant.1))
 
-pub returns-then-left-n : goal.returns-then-left-n
-returns-then-left-n c =
-    let put = c.put-n in
-    let word = c.word_at in
-    let v = c.loop-i in
-    let s = stands c.args.bytes.now v.i word.result (omega arith) word.ensures in
-    line_over s put.result v.left put.ensures.place (omega arith) ∙ v.invariant.2
-
 pub loop-i-preserved : goal.loop-i-preserved
 loop-i-preserved c =
     let put = c.put-n in
@@ -44,7 +36,7 @@ loop-i-preserved c =
     let s = stands c.args.bytes.now v.i word.result (omega arith) word.ensures in (
       omega arith,
       length_appended put.ensures ∙ v.invariant.1,
-      line_fits s put.result v.left put.ensures.place c.if-left-n.false ∙ v.invariant.2,
+      line_fits s put.result v.left put.ensures.place (omega arith) ∙ v.invariant.2,
     )
 
 pub returns : goal.returns

@@ -1,10 +1,19 @@
 -- `put`: the row that the word's key finds, where it makes the whole word; else one number.
-use mathlib.Core.Path.{sym, ◌∙◌}
+use mathlib.Core.Path.{◌∙◌}
 use native.Mathlib.Omega.{arith}
 use lib.ListN.{length-set}
 use Rattle.text.proofs.Appending.{byte, joined, same, length_appended}
-use Rattle.lister.proofs.Rows.{a_row, no_row, not_filled, by_name}
+use Rattle.lister.proofs.Rows.{a_row, no_row, by_name}
 use Rattle.lister.proofs.word.put.Goals as goal
+
+pub returns : goal.returns
+returns c =
+    let name = c.put_name-to in
+    let w = c.args.w in
+    let one = a_row w _ c.keyed-row.ensures c.if-row-eq-ROWS.false in
+    let space = byte name.new.out name.result 32 (omega (arith, length_appended name.ensures.0)) in
+    same (joined name.ensures.0 (joined space c.put_pieces.ensures))
+    (by_name w _ c.keyed-row.ensures one (omega (arith, c.filled-full.ensures)))
 
 pub returns-then-row-eq-ROWS : goal.returns-then-row-eq-ROWS
 returns-then-row-eq-ROWS c =
@@ -13,13 +22,6 @@ returns-then-row-eq-ROWS c =
 pub filled-full-requires : goal.filled-full-requires
 filled-full-requires c =
     (c.requires.0, a_row c.args.w _ c.keyed-row.ensures c.if-row-eq-ROWS.false)
-
-pub returns-then-full-w : goal.returns-then-full-w
-returns-then-full-w c =
-    let w = c.args.w in
-    let one = a_row w _ c.keyed-row.ensures c.if-row-eq-ROWS.false in
-    same c.put_number-then-full-w.ensures.0
-    (not_filled w _ c.keyed-row.ensures one (λ q. c.if-full-w.true (c.filled-full.ensures ∙ q)))
 
 pub put_name-to-requires : goal.put_name-to-requires
 put_name-to-requires c =
@@ -36,12 +38,3 @@ put_pieces-requires c =
 pub shape_of-out : goal.shape_of-out
 shape_of-out c =
     length_appended c.put_pieces.ensures ∙ simp length-set (length_appended c.put_name-to.ensures.0)
-
-pub returns : goal.returns
-returns c =
-    let name = c.put_name-to in
-    let w = c.args.w in
-    let one = a_row w _ c.keyed-row.ensures c.if-row-eq-ROWS.false in
-    let space = byte name.new.out name.result 32 (omega (arith, length_appended name.ensures.0)) in
-    same (joined name.ensures.0 (joined space c.put_pieces.ensures))
-    (by_name w _ c.keyed-row.ensures one (sym c.filled-full.ensures ∙ c.if-full-w.false))

@@ -1,6 +1,6 @@
 -- What the programs make, at each way out of them: an input that is too long, a refusal, a result. And that a bad line's numbers are small,
 -- and a result lies within the output lent.
-use mathlib.Core.Path.{◌≡◌, refl, ap}
+use mathlib.Core.Path.{◌≡◌, refl, sym, ap}
 use mathlib.Core.List.{List, []}
 use Prim.Native.Nat.{ℕ, ◌^◌, ◌≤◌, ◌<◌}
 use native.Mathlib.Omega.{arith}
@@ -70,6 +70,15 @@ module _ (input out : List ℕ) where
   pub text_long : 294912 < length input → refusal (refused_at 7 0 0) out ≡ asm_work input out
   unfolding asm_work
   text_long h = simp lt-leb
+
+  pub long_none : 294912 < length input → (asm_work input out).length ≡ 0
+  long_none h = ap (λ w. w.length) (sym (text_long h))
+
+  pub long_same : 294912 < length input → (asm_work input out).out ≡ out
+  long_same h = ap (λ w. w.out) (sym (text_long h))
+
+  pub long_said : 294912 < length input → (asm_work input out).line ≡ refused_at 7 0 0
+  long_said h = ap (λ w. w.line) (sym (text_long h))
 
   module _ (short : length input ≤ 294912) where
     asm_called : asm_work input out ≡ asm_by (assemble_call input out)

@@ -34,6 +34,7 @@ fn refused_at(refusal: Refusal, line: usize, column: usize, said: &mut [u8]) -> 
 }
 
 // A text of at most 294,912 bytes, 18 for each of 16,384 words; "a longer input is refused 7 by its length alone".
+#[tactic(auto, using(crate::proofs::Works::long_none, crate::proofs::Works::long_same, crate::proofs::Works::long_said))]
 pub fn asm(input: &[u8], out: &mut [u8], said: &mut [u8]) -> Made
     requires { 64 ≤ length said.old }
     ensures { programs.AsmPromise input.now out.old said.old result out.new said.new }

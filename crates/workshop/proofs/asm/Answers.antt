@@ -1,12 +1,7 @@
 -- `asm`: its three ways; a bad line's numbers are small because the text is.
 use native.Mathlib.Omega.{arith}
-use Rattle.workshop.proofs.Works.{refused, made, text_long, text_good, text_bad, small}
+use Rattle.workshop.proofs.Works.{refused, made, text_good, text_bad, small}
 use Rattle.workshop.proofs.asm.Goals as goal
-
-pub returns-then-input-gt294912 : goal.returns-then-input-gt294912
-returns-then-input-gt294912 c =
-    let a = c.args in
-    refused c.refused_at.ensures (text_long a.input.now a.out.now (omega arith))
 
 pub refused_at-requires-in-NotAssembled : goal.refused_at-requires-in-NotAssembled
 refused_at-requires-in-NotAssembled c =

@@ -1,6 +1,7 @@
 -- `refused_at`: the word, the three numbers, the end of the line.
 use mathlib.Core.Path.{refl}
 use Rattle.workshop.proofs.Works.{said_at}
+use borrow.Author.Rules.{rules}
 use Rattle.workshop.proofs.refused_at.Goals as goal
 
 pub returns : goal.returns
@@ -8,5 +9,5 @@ returns c =
     let a = c.args in (
       refl,
       said_at a.refusal _ a.line a.column c.refusal_number.ensures c.put-word.ensures
-          c.put_spaced-number.ensures.0 c.put_spaced-place.ensures.0 c.put_spaced-end.ensures.0 c.put.ensures,
+          c.put_spaced-number.ensures.0 (search rules) c.put_spaced-end.ensures.0 c.put.ensures,
     )

@@ -9,7 +9,7 @@ roomed() { # ROOM
     mkdir -p "$1"
     cp "$root/crates.txt" "$1/"
     cp -al "$root/crates" "$1/crates"
-    (cd "$root/crates" && find . -type f ! -name '*.oantt' -print0 | tar cf - --null -T -) | (cd "$1/crates" && tar xf - --unlink-first)
+    (cd "$root/crates" && find . -type f ! -name '*.oantt' -print0 | tar cf - --warning=no-file-changed --null -T -) | (cd "$1/crates" && tar xf - --unlink-first)
 }
 
 # The crate that a check in a room came to last, by the check's log.

@@ -3,7 +3,7 @@
 # goal that no way proves, also one for which no proof text stands. All else, and what is not known here, is a proof text that does not fit the code or the statement.
 function settle(text) {
     what = "unfit"
-    if (text ~ /the (goal|part) fails, at /) what = "fact"
+    if (text ~ /the (goal|part) fails,? at /) what = "fact"
     else if (text ~ /(computed as far as they go|as printed), the two (types|sides) (first differ|differ only|are `)/ && text !~ /(has|other has) `(Prim\.Native\.Nat\.ℕ|[^`]*\.Denot)`/) what = "fact"
     else if (text ~ /`search`: no proof of / && text ~ /Every way was tried/) what = "fact"
     else if (text ~ /so what it leaves must be a path whose two ends are equal/) what = "fact"

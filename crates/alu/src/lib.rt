@@ -1,53 +1,55 @@
 // The arithmetic of the instructions: sign extension, differences, comparisons, shifts.
 #![tactic(auto)]
 
-ghost use Rattle.std.specs.Prelude.{◌≡◌, ◌*◌, ◌^◌, ◌<◌};
+ghost use Rattle.std.specs.Prelude.{◌≡◌, ◌*◌, ◌^◌, ◌<◌, ◌≤◌};
 ghost use Rattle.model.specs.Words as words;
 ghost use Rattle.model.specs.Words.{minus, low, extend, below, shift_left, shift_right, top_ones, shift_signed, compared};
+ghost use Rattle.alu.specs.Relations.{number_of};
 
-// "lb and lh sign extended"
-pub fn sext8(x: u32) -> u32
-    requires { x < 2 ^ 8 }
-    ensures { result ≡ extend 8 x }
+// A number of so many bits: "imm is sign extended everywhere", "for j and jal the 26-bit number is too", "lb and lh sign extended".
+#[tactic(auto, using(crate::proofs::Words::extended))]
+pub fn sext(bits: u32, x: u32) -> u32
+    requires { (0 < bits) × (bits ≤ 32) × (x < 2 ^ bits) }
+    ensures { result ≡ extend bits x }
 {
-    std::num::wrapping_sub_u32(std::num::wrapping_add_u32(x, 128) % 256, 128)
-}
-
-// "imm is sign extended everywhere"
-pub fn sext16(x: u32) -> u32
-    requires { x < 2 ^ 16 }
-    ensures { result ≡ extend 16 x }
-{
-    std::num::wrapping_sub_u32(std::num::wrapping_add_u32(x, 32768) % 65536, 32768)
-}
-
-// "for j and jal the 26-bit number is too"
-pub fn sext26(x: u32) -> u32
-    requires { x < 2 ^ 26 }
-    ensures { result ≡ extend 26 x }
-{
-    std::num::wrapping_sub_u32(std::num::wrapping_add_u32(x, 33554432) % 67108864, 33554432)
+    let half = 1u32 << (bits - 1);
+    // The bits above are left out, which makes it one instruction of the processor.
+    (x.wrapping_add(half) & (half + (half - 1))).wrapping_sub(half)
 }
 
 // "Sums and differences of registers and addresses go round at 2^32", of sub and subi.
 pub fn sub(x: u32, y: u32) -> u32
     ensures { result ≡ minus x y }
 {
-    std::num::wrapping_sub_u32(x, y)
+    x.wrapping_sub(y)
 }
 
 // x < y, signed.
 pub fn less(x: u32, y: u32) -> bool
     ensures { result ≡ below x y }
 {
-    std::num::wrapping_add_u32(x, 2147483648) < std::num::wrapping_add_u32(y, 2147483648)
+    x.wrapping_add(2147483648) < y.wrapping_add(2147483648)
 }
 
-// Comparison c of 0 to 7: "never, >, =, ≥, <, ≠, ≤, always".
-pub fn compare(c: u32, x: u32, y: u32) -> u32
-    requires { c < 8 }
-    ensures { result ≡ compared c x y }
+// The comparisons, by the order of their numbers: "never, >, =, ≥, <, ≠, ≤, always".
+#[derive(Clone, Copy, Debug, PartialEq, Eq)]
+pub enum Relation {
+    Never,
+    Greater,
+    Equal,
+    GreaterEqual,
+    Less,
+    NotEqual,
+    LessEqual,
+    Always,
+}
+
+// "RD = 1 or 0", signed: each answer to x and y is a bit of the relation's number. A match with a test for each relation is laid out
+// otherwise by the compiler, and took 1.06 to 1.24 of the time of every guest.
+pub fn compare(r: Relation, x: u32, y: u32) -> u32
+    ensures { result ≡ compared (number_of r) x y }
 {
+    let c = r as u32;
     if x == y {
         c / 2 % 2
     } else if less(x, y) {

@@ -33,10 +33,8 @@ pub fn put_numbers(out: &mut [u8], at: usize, numbers: &[u32]) -> usize
         × (result ≤ at + 11 * length numbers.now) }
 {
     let mut to = at;
-    let mut i = 0;
-    while i < numbers.len() {
-        to = put_spaced(out, to, numbers[i]);
-        i += 1;
+    for n in numbers {
+        to = put_spaced(out, to, *n);
     }
     to
 }
@@ -60,8 +58,8 @@ pub fn verdict_line(out: &mut [u8], at: usize, v: Verdict, word: &[u8], bytes: &
         (or_refused (verdict_numbers v) (lines.hex_line word.now bytes.now)) }
 {
     match v {
-        Verdict::Refused(refusal) => refused_line(out, at, refusal_number(refusal)),
-        Verdict::Granted => hex_line(out, at, word, bytes),
+        Err(refusal) => refused_line(out, at, refusal_number(refusal)),
+        Ok(()) => hex_line(out, at, word, bytes),
     }
 }
 

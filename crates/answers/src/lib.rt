@@ -9,18 +9,7 @@ use model::{Refusal, Stop, Verdict};
 pub fn refusal_number(r: Refusal) -> u32
     ensures { result ≡ numbers.refusal_number r }
 {
-    match r {
-        Refusal::Bound => 1,
-        Refusal::Unsound => 2,
-        Refusal::Rights => 3,
-        Refusal::TooMuch => 4,
-        Refusal::Edition => 5,
-        Refusal::Format => 6,
-        Refusal::Room => 7,
-        Refusal::Mnemonic => 8,
-        Refusal::Operand => 9,
-        Refusal::Overflow => 10,
-    }
+    r as u32
 }
 
 // 0, or the refusal's number.
@@ -28,11 +17,12 @@ pub fn verdict_number(v: Verdict) -> u32
     ensures { result ≡ (numbers.verdict_numbers v).refused }
 {
     match v {
-        Verdict::Granted => 0,
-        Verdict::Refused(r) => refusal_number(r),
+        Ok(()) => 0,
+        Err(r) => refusal_number(r),
     }
 }
 
+// A stop has two numbers, and its cases hold values: neither `as` nor one `From` would give both.
 pub fn stop_number(s: Stop) -> u32
     ensures { result ≡ numbers.stop_number s }
 {

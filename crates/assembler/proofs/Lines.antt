@@ -1,19 +1,25 @@
--- The lines of a text, met at a place: the line that begins there ends at the next newline, and the others begin behind that.
-use mathlib.Core.Path.{◌≡◌, refl, sym, ap, ap₂, ◌∙◌}
+-- The first line of a text: it ends at the first newline, and the others begin behind that.
+use mathlib.Core.Path.{◌≡◌, refl, sym, ap, ◌∙◌}
 use mathlib.Core.Bool.{Bool, true, false, not}
 use mathlib.Core.List.{List, [], ◌∷◌}
 use Prim.Native.Nat.{ℕ, suc, ◌+◌, ◌-◌, ◌≤◌, ◌<◌}
 use native.Mathlib.Nat.{not-suc-le-zero}
 use native.Mathlib.Omega.{arith}
-use borrow.Author.Tests.{eq-eqb, ne_eqb}
-use lib.Dec.{eqb}
-use lib.ListN.{length, get_or, take, drop, length-drop, drop_of_length-le}
-use lib.Seq.{drop-drop}
+use native.Mathlib.Numerals.{add-one}
+use borrow.Author.Tests.{ltb-true, ltb-false}
+use Rattle.std.specs.Prelude.{Option, Some, None, if◌then◌else◌}
+use Rattle.std.specs.List.{position_or_len}
+use lib.Dec.{eqb, ltb}
+use lib.ListN.{length, take, drop, length-drop, drop_of_length-le}
+use lib.Seq.{take_all, length-take-le}
 use Rattle.text.specs.Reading.{front}
-use Rattle.text.proofs.Fronts as fronts
-use Rattle.text.proofs.Fronts.{front_inside, front_stop}
+use Rattle.laws.proofs.Choice.{clash}
 use Rattle.notation.specs.Text.{before, lines}
-use Rattle.assembler.specs.Passes.{in_line, line_end}
+use Rattle.line.proofs.Names.{front_long}
+
+-- a byte within a line
+abbrev in_line : ℕ → Bool
+in_line c = not (eqb c 10)
 
 -- the first line, and those behind it
 abbrev first_line : List ℕ → List (List ℕ)
@@ -48,39 +54,46 @@ first_line_lem (c ∷ cs) h = pick (eqb c 10) refl (first_line_lem cs)
     pick true e behind = simp e
     pick false e behind = first_more c cs e behind
 
--- the lines from a place on
-module _ (text : List ℕ) (at : ℕ) where
-  pub no_lines : length text ≤ at → lines (drop at text) ≡ []
-  unfolding lines
-  no_lines h = rw (drop_of_length-le text h)
+pub no_text : (text : List ℕ) → length text ≡ 0 → lines text ≡ []
+unfolding lines
+no_text [] h = refl
+no_text (c ∷ cs) h = absurd (omega (arith, h))
 
-  -- ---- the line's end, byte by byte
-  pub end_newline : get_or text at 0 ≡ 10 → at ≡ line_end text at
-  unfolding line_end
-  end_newline e = omega (arith, ap length (front_stop in_line text at (ap not (eq-eqb _ _ e))))
+-- ---- where the first newline is
+module _ (text : List ℕ) where
+  abbrev newline_at : ℕ
+  newline_at = position_or_len (λ b. eqb b 10) text
 
-  pub end_text : length text ≤ at → at ≡ line_end text at
-  unfolding line_end front
-  end_text h = rw (drop_of_length-le text h) (omega arith)
+  long : length (front in_line text) ≡ newline_at
+  long = front_long in_line text
 
-  pub end_further : at < length text → (get_or text at 0 ≡ 10 → ⊥) → line_end text (at + 1) ≡ line_end text at
-  unfolding line_end
-  end_further h f = omega (arith, ap length (fronts.front_more in_line text at h (ap not (ne_eqb _ _ f))))
+  pub first_at : 0 < length text → lines text ≡ take newline_at text ∷ lines (drop (newline_at + 1) text)
+  first_at h = first_line_lem text h ∙ rw (long, add-one) refl
 
-  pub end_from : at ≤ line_end text at
-  unfolding line_end
-  end_from = omega arith
+  module _ (h : 0 < length text) (r : Option ℕ) (e : r ≡ (if ltb newline_at (length text) then Some newline_at else None)) where
+    abbrev First : List ℕ → List ℕ → Type 0
+    First line behind = (lines text ≡ line ∷ lines behind) × (length line + length behind ≤ length text) × (length behind < length text)
 
-  pub end_inside : at ≤ length text → line_end text at ≤ length text
-  unfolding line_end
-  end_inside h = front_inside in_line text at h
+    first_of : (n : ℕ) → n ≡ newline_at → n < length text → First (take n text) (take (length text - (n + 1)) (drop (n + 1) text))
+    first_of n k l =
+        let whole = take_all (length text - (n + 1)) (drop (n + 1) text) (omega (arith, length-drop (n + 1) text)) in
+        let f = first_at h in
+        rw (whole, k) (f, omega (arith, length-take-le newline_at text, length-drop (newline_at + 1) text), omega (arith, length-drop (newline_at + 1) text))
 
-  pub lines_from : at < length text
-      → lines (drop at text) ≡ take (line_end text at - at) (drop at text) ∷ lines (drop (line_end text at + 1) text)
-  unfolding line_end
-  lines_from h =
-      let n = length (front in_line (drop at text)) in
-      let e : at + n - at ≡ n = omega arith in
-      let f : at + suc n ≡ at + n + 1 = omega arith in
-      first_line_lem (drop at text) (omega (arith, length-drop at text))
-      ∙ ap₂ (λ k l. take k (drop at text) ∷ lines l) (sym e) (drop-drop (suc n) at text ∙ ap (λ k. drop k text) f)
+    pub first_stops : (n : ℕ) → r ≡ Some n → First (take n text) (take (length text - (n + 1)) (drop (n + 1) text))
+    first_stops n f = pick (ltb newline_at (length text)) refl (sym e ∙ f)
+      where
+        pick : (b : Bool) → ltb newline_at (length text) ≡ b → (if b then Some newline_at else None) ≡ Some n → First (take n text) (take (length text - (n + 1)) (drop (n + 1) text))
+        pick true k g = let q : n ≡ newline_at = cc in first_of n q (omega (arith, q, ltb-true newline_at (length text) k))
+        pick false k g = clash (cc)
+
+    pub first_ends : r ≡ None → First text []
+    first_ends f = pick (ltb newline_at (length text)) refl (sym e ∙ f)
+      where
+        pick : (b : Bool) → ltb newline_at (length text) ≡ b → (if b then Some newline_at else None) ≡ None → First text []
+        pick true k g = clash (cc)
+        pick false k g =
+            let q = ltb-false newline_at (length text) k in
+            let t = take_all newline_at text q in
+            let d : drop (newline_at + 1) text ≡ [] = drop_of_length-le text (omega (arith, q)) in
+            (rw (t, d) at (first_at h), omega arith, omega arith)

@@ -1,83 +1,58 @@
 // The assembler: a text of one instruction a line, to words. A pass reads every line and counts, a pass writes.
 #![tactic(auto)]
 
-ghost use Rattle.std.specs.Prelude.{◌≡◌, [], ◌+◌, ◌≤◌, length};
+ghost use Rattle.std.specs.Prelude.{◌≡◌, [], ◌∷◌, ◌+◌, ◌<◌, ◌≤◌, length, MatchOption, Ok};
 ghost use Rattle.laws.specs.Over.{over};
 ghost use Rattle.notation.specs.Calls.{bytes_of_word};
 ghost use Rattle.notation.specs.Line.{line_of};
 ghost use Rattle.notation.specs.Promises.{AssemblePromise};
-ghost use Rattle.mnemonics.specs.Rows.{Tabled};
+ghost use Rattle.notation.specs.Text.{lines};
 ghost use Rattle.assembler.specs.Passes as passes;
 
-use mnemonics::NUMBERS;
 use model::Refusal;
-use notation::{AssembleAnswer, Parsed};
+use notation::{AssembleAnswer, NotAssembled};
 
-// What the first pass finds: how many lines there are, all of them good; or the first bad one.
-#[derive(Clone, Copy)]
-enum Checked {
-    Good {
-        lines: usize,
-    },
-    Bad {
-        refusal: Refusal,
-        line: usize,
-        column: usize,
-    },
-}
-
-// Where the line that begins at a place ends: at the next newline, or with the text.
-fn line_end(text: &[u8], at: usize) -> usize
-    requires { at ≤ length text.now }
-    ensures { (result ≡ passes.line_end text.now at) × (at ≤ result) × (result ≤ length text.now) }
+// The first line, and what stands behind its newline; none of no text. The library's `split` has a last line more where a text ends in
+// a newline, and `split_inclusive` keeps the newlines.
+fn first_line(text: &[u8]) -> Option<(&[u8], &[u8])>
+    ensures { MatchOption result (lines text.now ≡ [])
+        (λ p. (lines text.now ≡ p.0.now ∷ lines p.1.now) × (length p.0.now + length p.1.now ≤ length text.now)
+        × (length p.1.now < length text.now)) }
 {
-    let mut i = at;
-    while i < text.len() {
-        if text[i] == 10 {
-            return i;
-        }
-        i += 1;
+    if text.is_empty() {
+        return None;
     }
-    i
+    match text.iter().position(|b| *b == b'\n') {
+        Some(n) => Some((&text[..n], &text[n + 1..])),
+        None => Some((text, &[])),
+    }
 }
 
-fn check(t: &[u64; NUMBERS], text: &[u8]) -> Checked
-    requires { Tabled t.now }
+// How many lines there are, all of them good; or the first bad one.
+fn check(text: &[u8]) -> Result<usize, NotAssembled>
     ensures { result ≡ passes.checked text.now }
 {
-    let mut at = 0;
     let mut n = 0;
-    while at < text.len() {
-        let end = line_end(text, at);
-        match line::read(t, &text[at..end]) {
-            Parsed::Wrong { refusal, place } => {
-                return Checked::Bad {
-                    refusal: refusal,
-                    line: n + 1,
-                    column: place + 1,
-                };
-            }
-            Parsed::Value { value: _, next: _ } => {
-                n += 1;
-                at = end + 1;
-            }
+    let mut left = text;
+    while let Some((line, behind)) = first_line(left) {
+        if let Err(wrong) = line::read(line) {
+            return Err(NotAssembled {
+                refusal: wrong.refusal,
+                line: n + 1,
+                column: wrong.place + 1,
+            });
         }
+        n += 1;
+        left = behind;
     }
-    Checked::Good { lines: n }
+    Ok(n)
 }
 
 // The word of a good line.
-fn word(t: &[u64; NUMBERS], s: &[u8]) -> u64
-    requires { Tabled t.now }
+fn word(s: &[u8]) -> u64
     ensures { result ≡ passes.word_of (line_of s.now) }
 {
-    match line::read(t, s) {
-        Parsed::Value { value, next: _ } => value,
-        Parsed::Wrong {
-            refusal: _,
-            place: _,
-        } => 0,
-    }
+    line::read(s).map_or(0, |(word, _)| word)
 }
 
 // A word's bytes at a place.
@@ -85,60 +60,36 @@ fn put_word(out: &mut [u8], to: usize, w: u64)
     requires { to + 4 ≤ length out.old }
     ensures { out.new ≡ over to (bytes_of_word w []) out.old }
 {
-    out[to] = (w % 256) as u8;
-    out[to + 1] = (w / 256 % 256) as u8;
-    out[to + 2] = (w / 65536 % 256) as u8;
-    out[to + 3] = (w / 16777216 % 256) as u8;
+    out[to..to + 4].copy_from_slice(&w.to_le_bytes()[..4]);
 }
 
 // The words of good lines, where there is room.
-fn write(t: &[u64; NUMBERS], text: &[u8], out: &mut [u8], lines: usize) -> AssembleAnswer
-    requires { Tabled t.now × (passes.checked text.now ≡ Checked.Good lines) }
+fn write(text: &[u8], out: &mut [u8], lines: usize) -> AssembleAnswer
+    requires { passes.checked text.now ≡ Ok lines }
     ensures { AssemblePromise text.now out.old result out.new }
 {
     if out.len() / 4 < lines {
-        return AssembleAnswer::NotAssembled {
+        return Err(NotAssembled {
             refusal: Refusal::Room,
             line: 0,
             column: 0,
-        };
+        });
     }
-    let mut at = 0;
     let mut n = 0;
-    while at < text.len() {
-        let end = line_end(text, at);
-        let w = word(t, &text[at..end]);
-        put_word(out, 4 * n, w);
+    let mut left = text;
+    while let Some((line, behind)) = first_line(left) {
+        put_word(out, 4 * n, word(line));
         n += 1;
-        at = end + 1;
+        left = behind;
     }
-    AssembleAnswer::Assembled { length: 4 * lines }
-}
-
-// The answer, by what is found of the lines.
-fn answer(t: &[u64; NUMBERS], text: &[u8], out: &mut [u8], found: Checked) -> AssembleAnswer
-    requires { Tabled t.now × (found ≡ passes.checked text.now) }
-    ensures { AssemblePromise text.now out.old result out.new }
-{
-    match found {
-        Checked::Bad {
-            refusal,
-            line,
-            column,
-        } => AssembleAnswer::NotAssembled {
-            refusal: refusal,
-            line: line,
-            column: column,
-        },
-        Checked::Good { lines } => write(t, text, out, lines),
-    }
+    Ok(4 * lines)
 }
 
 // "assemble(text, out)": a word for each line; or the refusal of the first bad line, and its place; or for want of room.
+#[tactic(auto, using(crate::proofs::Passes::refused_line_lem))]
 pub fn assemble(text: &[u8], out: &mut [u8]) -> AssembleAnswer
     ensures { AssemblePromise text.now out.old result out.new }
 {
-    let t = mnemonics::table();
-    let found = check(&t, text);
-    answer(&t, text, out, found)
+    let lines = check(text)?;
+    write(text, out, lines)
 }

@@ -3,15 +3,17 @@ use mathlib.Core.Path.{◌≡◌, sym, ap, ap₂, ◌∙◌}
 use mathlib.Core.Bool.{Bool, true, false, ◌&&◌, not}
 use mathlib.Core.List.{List, map}
 use Prim.Native.Nat.{ℕ, ◌+◌, ◌%◌, ◌≤◌, ◌<◌}
+use native.Mathlib.Nat.{add-zero}
 use native.Mathlib.Numerals.{add-one}
 use native.Mathlib.Omega.{arith}
 use borrow.Author.Tests.{lt-ltb, le-ltb, eq-eqb, ne_eqb}
 use lib.Dec.{ltb, eqb}
-use lib.ListN.{get_or, get_or-map}
+use lib.ListN.{get_or, take, drop, get_or-map}
+use lib.Seq.{get_or-take, get_or-drop}
 use Rattle.model.specs.Choice.{every_below}
 use Rattle.model.specs.Pages.{virtual}
 use Rattle.model.specs.Frames.{page_in, marked, without_mark, remarked, frame, seat, grown, turned, advanced, copies}
-use Rattle.model.specs.Sound.{all_different, zero_from, rest_zero, hand_right}
+use Rattle.model.specs.Sound.{all_different, zero_from, hand_right}
 use Rattle.model.specs.declared.FrameBook.{FrameBook}
 use Rattle.model.specs.declared.VirtualPage.{VirtualPage}
 use Rattle.laws.proofs.Choice.{or_left, every_from, every_not}
@@ -57,17 +59,16 @@ module _ (used : ℕ) (held : List ℕ) where
   pub pair_equal : (i j : ℕ) → i < j → j < used → get_or held i 0 ≡ get_or held j 0 → false ≡ all_different b
   pair_equal i j q r e = sym (every_not used _ j r (every_not j _ i q (ap not (same_number i j ∙ eq-eqb _ _ e))))
 
-  -- ---- "B is 0 from b on", so far
-  pub zero_before : true ≡ every_below used (λ k. zero_from b k)
-  zero_before = sym (every_from used _ (λ i q. or_left _ _ (lt-ltb _ _ q)))
+  -- ---- "B is 0 from b on": of the words from b on none was looked at, and one more
+  pub zero_before : true ≡ every_below (used + 0) (λ k. zero_from b k)
+  zero_before = simp add-zero (sym (every_from used _ (λ i q. or_left _ _ (lt-ltb _ _ q))))
 
-  pub zero_next : (i : ℕ) → used ≤ i → (z : Bool) → z ≡ every_below i (λ k. zero_from b k)
-      → (z && eqb (get_or held i 0) 0) ≡ every_below (i + 1) (λ k. zero_from b k)
+  pub zero_next : (i n : ℕ) → i < n → (z : Bool) → z ≡ every_below (used + i) (λ k. zero_from b k)
+      → (z && eqb (get_or (take n (drop used held)) i 0) 0) ≡ every_below (used + (i + 1)) (λ k. zero_from b k)
   unfolding every_below
-  zero_next i q z e = rw (add-one, e) (simp (le-ltb _ _ q, page_number held i))
-
-  pub zero_all : (i : ℕ) → i ≤ 32 → 32 ≤ i → (z : Bool) → z ≡ every_below i (λ k. zero_from b k) → z ≡ rest_zero b
-  zero_all i q r z e = let all : i ≡ 32 = omega arith in e ∙ ap (λ n. every_below n (λ k. zero_from b k)) all
+  zero_next i n q z e =
+      let next : used + (i + 1) ≡ (used + i) + 1 = omega arith in
+      rw (next, add-one, e, get_or-take n (drop used held) i 0 q, get_or-drop used held i 0) (simp (le-ltb (used + i) used (omega arith), page_number held (used + i)))
 
 -- ---- the hand
 module _ (a used hand : ℕ) (held : List ℕ) (marks : ℕ) where

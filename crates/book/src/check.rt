@@ -3,38 +3,31 @@ ghost use Rattle.std.specs.Prelude.{◌≡◌, List, ℕ, ◌≤◌, length};
 ghost use Rattle.model.specs.Sound as tests;
 ghost use Rattle.book.specs.Numbers.{book_of};
 
-// "all different (the check stops at the first equal pair)"
+// "all different (the check stops at the first equal pair)". Nested labelled loops over B, as document 01 asks, so no `contains`.
 pub fn all_different(used: u32, held: &[u32]) -> bool
     requires { (used ≤ 32) × (length held.now ≡ 32) }
     ensures { (hand marks : ℕ) → result ≡ tests.all_different (book_of used hand held.now marks) }
 {
-    let n = used as usize;
     let mut different = true;
-    let mut j = 0;
-    'frames: while j < n {
-        let mut i = 0;
-        while i < j {
+    'frames: for j in 0..used as usize {
+        for i in 0..j {
             if held[i] == held[j] {
                 different = false;
                 break 'frames;
             }
-            i += 1;
         }
-        j += 1;
     }
     different
 }
 
-// "B is 0 from b on": no word ends the loop early, so that it looks at several at once.
+// "B is 0 from b on": no word ends the loop early, as it would in `all`, so that it looks at several at once.
 pub fn rest_zero(used: u32, held: &[u32]) -> bool
     requires { (used ≤ 32) × (length held.now ≡ 32) }
     ensures { (hand marks : ℕ) → result ≡ tests.rest_zero (book_of used hand held.now marks) }
 {
     let mut zero = true;
-    let mut i = used as usize;
-    while i < 32 {
-        zero = zero & (held[i] == 0);
-        i += 1;
+    for &x in &held[used as usize..32] {
+        zero = zero & (x == 0);
     }
     zero
 }

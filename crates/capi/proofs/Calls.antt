@@ -4,21 +4,17 @@ use mathlib.Core.List.{List}
 use Prim.Native.Nat.{ℕ}
 use lib.ListN.{length}
 use borrow.Author.Tests.{eq-eqb, ne_eqb}
+use Rattle.std.specs.Prelude.{Ok, Err}
 use Rattle.model.specs.State.{memory, state}
-use Rattle.model.specs.Answers.{refusal_number, verdict_numbers, run_numbers}
+use Rattle.model.specs.Answers.{refusal_number, verdict_numbers, run_numbers, Verdict, RunAnswer}
 use Rattle.model.specs.Calls.{StateOutcome, RunOutcome, run_verdict, run_outcome, run_call, read_call, write_call, reply_verdict, reply_call}
 use Rattle.model.specs.Image.{load_call}
 use Rattle.model.specs.declared.Machine.{Machine}
 use Rattle.model.specs.declared.Refusal.{Refusal}
 use Rattle.model.specs.declared.Refusal.TheVariants.{Bound}
-use Rattle.model.specs.declared.Verdict.{Verdict}
-use Rattle.model.specs.declared.Verdict.TheVariants.{Granted, Refused}
-use Rattle.model.specs.declared.RunAnswer.{RunAnswer}
-use Rattle.model.specs.declared.RunAnswer.TheVariants.{NotRun}
 use Rattle.record.specs.Words.{record_length, machine_of, words_of, with_register}
 use Rattle.notation.specs.Calls.{assemble_numbers, assemble_outcome, assemble_call, list_numbers, list_outcome, list_call}
-use Rattle.notation.specs.declared.AssembleAnswer.{AssembleAnswer}
-use Rattle.notation.specs.declared.ListAnswer.{ListAnswer}
+use Rattle.notation.specs.Answers.{AssembleAnswer, ListAnswer}
 use Rattle.capi.specs.Calls as calls
 use Rattle.capi.proofs.Refused.{run_refused, reply_refused}
 
@@ -52,7 +48,7 @@ module _ (words main swap : List ℕ) (limit : ℕ) (answer : List ℕ) where
     run_narrow n = simp (eq-eqb _ _ e, ne_eqb _ _ n)
 
     pub run_not : length answer ≡ 5 → (m : Machine) → m ≡ machine_of words → (v : Verdict) → v ≡ run_verdict (state m main swap) limit
-        → (r : Refusal) → v ≡ Refused r → (n : ℕ) (w : List ℕ) → (n ≡ (run_numbers (NotRun r)).verdict.refused) × (w ≡ calls.run_words (run_numbers (NotRun r)))
+        → (r : Refusal) → v ≡ Err r → (n : ℕ) (w : List ℕ) → (n ≡ (run_numbers (Err r)).verdict.refused) × (w ≡ calls.run_words (run_numbers (Err r)))
         → record { returned = n; words = words; main = main; swap = swap; answer = w } ≡ calls.run words main swap limit answer
     run_not f m em v ev r h n w ew =
         rw (ew.0, ew.1) (sym (run_refused words e r main swap limit answer f (ap (λ k. run_verdict (state k main swap) limit) (sym em) ∙ sym ev ∙ h)))
@@ -99,12 +95,12 @@ module _ (words : List ℕ) (i v : ℕ) where
 
   module _ (e : length words ≡ record_length) (u : Verdict) (eu : u ≡ reply_verdict i) where
     -- the code sets register k
-    pub reply_set : u ≡ Granted → (k : ℕ) → k ≡ i → (w : List ℕ) → w ≡ words_of (with_register (machine_of words) k v)
+    pub reply_set : u ≡ Ok tt → (k : ℕ) → k ≡ i → (w : List ℕ) → w ≡ words_of (with_register (machine_of words) k v)
         → record { returned = 0; words = w } ≡ calls.reply words i v
     unfolding calls.reply reply_call
     reply_set h k is w ew = simp (eq-eqb _ _ e, ← eu, h, ew, is)
 
-    pub reply_not : (r : Refusal) → u ≡ Refused r → (n : ℕ) → n ≡ refusal_number r → record { returned = n; words = words } ≡ calls.reply words i v
+    pub reply_not : (r : Refusal) → u ≡ Err r → (n : ℕ) → n ≡ refusal_number r → record { returned = n; words = words } ≡ calls.reply words i v
     reply_not r h n en = rw en (sym (reply_refused words e r i v (sym eu ∙ h)))
 
 -- ---- assemble and list

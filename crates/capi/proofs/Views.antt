@@ -9,18 +9,17 @@ use lib.Dec.{eqb}
 use lib.ListN.{length, take, drop_of_length-le}
 use lib.Seq.{take_all}
 use borrow.Author.Tests.{eq-eqb, ne_eqb}
+use Rattle.std.specs.Prelude.{Ok, Err}
 use Rattle.model.specs.Bytes.{page, with_page}
 use Rattle.model.specs.Pages.{virtual}
 use Rattle.model.specs.Table.{entry, ppx, valid}
 use Rattle.model.specs.State.{State, Memory, state}
-use Rattle.model.specs.Answers.{verdict_numbers, refusal_number}
+use Rattle.model.specs.Answers.{verdict_numbers, refusal_number, Verdict}
 use Rattle.model.specs.Calls.{view_call, view_verdict, page_bytes}
 use Rattle.model.specs.declared.Shape.{Shape}
 use Rattle.model.specs.declared.Machine.{Machine}
 use Rattle.model.specs.declared.VirtualPage.{VirtualPage}
 use Rattle.model.specs.declared.Refusal.TheVariants.{Bound}
-use Rattle.model.specs.declared.Verdict.{Verdict}
-use Rattle.model.specs.declared.Verdict.TheVariants.{Granted, Refused}
 use Rattle.laws.proofs.Bytes.{length-page}
 use Rattle.laws.proofs.Granted.{some_number}
 use Rattle.host.specs.Home.{Reachable}
@@ -54,10 +53,10 @@ module _ (p : State) (x : VirtualPage) (array : length p.machine.book.held ≡ 3
   either = pick (view_verdict p x) refl
     where
       pick : (v : Verdict) → view_verdict p x ≡ v → Granting ⊎ Refusing
-      pick Granted e =
+      pick (Ok tt) e =
           let k = view_leans p array x (view_verdict p x) refl e in
           inl (record { number = simp e; long = simp e (length-bytes p.machine.shape p.memory x k.0 k.1) })
-      pick (Refused r) e = inr (record { number = simp e (some_number r); long = simp e })
+      pick (Err r) e = inr (record { number = simp e (some_number r); long = simp e })
 
   pub granting : 4096 ≤ length (view_call p x).part → Granting
   granting h = ⊎_elim (λ (g : Granting). g) (λ (g : Refusing). absurd (omega (arith, h, g.long))) either

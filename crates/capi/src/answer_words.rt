@@ -9,11 +9,7 @@ fn put_five(answer: &mut [u32], stop: u32, detail: u32, finished: u32, loads: u3
     requires { length answer.old ≡ 5 }
     ensures { answer.new ≡ stop ∷ detail ∷ finished ∷ loads ∷ copied ∷ [] }
 {
-    answer[0] = stop;
-    answer[1] = detail;
-    answer[2] = finished;
-    answer[3] = loads;
-    answer[4] = copied;
+    answer.copy_from_slice(&[stop, detail, finished, loads, copied]);
 }
 
 pub(crate) fn put_run(answer: &mut [u32], a: RunAnswer) -> u32
@@ -21,23 +17,18 @@ pub(crate) fn put_run(answer: &mut [u32], a: RunAnswer) -> u32
     ensures { (result ≡ (numbers.run_numbers a).verdict.refused) × (answer.new ≡ run_words (numbers.run_numbers a)) }
 {
     match a {
-        RunAnswer::Ran {
-            stop,
-            finished,
-            loads,
-            copied,
-        } => {
+        Ok(ran) => {
             put_five(
                 answer,
-                answers::stop_number(stop),
-                answers::stop_detail(stop),
-                finished,
-                loads,
-                copied,
+                answers::stop_number(ran.stop),
+                answers::stop_detail(ran.stop),
+                ran.finished,
+                ran.loads,
+                ran.copied,
             );
             0
         }
-        RunAnswer::NotRun(r) => {
+        Err(r) => {
             put_five(answer, 0, 0, 0, 0, 0);
             answers::refusal_number(r)
         }

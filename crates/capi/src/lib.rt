@@ -10,7 +10,7 @@ ghost use Rattle.model.specs.Promises.{LeastMainPagesPromise};
 ghost use Rattle.imagewords.specs.Image.{ImagePromise};
 ghost use Rattle.capi.specs.Promises as promises;
 
-use model::{RunAnswer, Verdict, VirtualPage};
+use model::VirtualPage;
 
 // The words of a record, and the bytes of a page.
 const RECORD: usize = record::LENGTH;
@@ -26,10 +26,8 @@ pub fn brenwythal_load(file: &[u8], main: &mut [u8], swap: &mut [u8], words: &mu
         return 1;
     }
     let h = loading::load(file, main, swap);
-    let m = h.machine;
-    let v = h.verdict;
-    record::put_machine(words, m);
-    answers::verdict_number(v)
+    record::put_machine(words, h.machine);
+    answers::verdict_number(h.verdict)
 }
 
 // Runs at most `limit` instructions. The answer: stop, detail, finished, loads, copied.
@@ -50,14 +48,12 @@ pub fn brenwythal_run(
         return 1;
     }
     match verdict::run_verdict(record::machine_of(words), main, swap, limit) {
-        Verdict::Granted => {
+        Ok(()) => {
             let r = machine::run_granted(record::machine_of(words), main, swap, limit);
-            let m = r.machine;
-            let a = r.answer;
-            record::put_machine(words, m);
-            answer_words::put_run(answer, a)
+            record::put_machine(words, r.machine);
+            answer_words::put_run(answer, r.answer)
         }
-        Verdict::Refused(r) => answer_words::put_run(answer, RunAnswer::NotRun(r)),
+        Err(r) => answer_words::put_run(answer, Err(r)),
     }
 }
 
@@ -87,10 +83,8 @@ pub fn brenwythal_write(
         return 1;
     }
     let h = machine::host_write(record::machine_of(words), main, swap, va, from);
-    let m = h.machine;
-    let v = h.verdict;
-    record::put_machine(words, m);
-    answers::verdict_number(v)
+    record::put_machine(words, h.machine);
+    answers::verdict_number(h.verdict)
 }
 
 // The page view, copied into a buffer of 4096 bytes. The verdict is asked for by name only where the part is empty.
@@ -127,11 +121,11 @@ pub fn brenwythal_reply(words: &mut [u32], register: u32, value: u32) -> u32
         return 1;
     }
     match verdict::reply_verdict(register) {
-        Verdict::Granted => {
+        Ok(()) => {
             record::set_register(words, register, value);
             0
         }
-        Verdict::Refused(r) => answers::refusal_number(r),
+        Err(r) => answers::refusal_number(r),
     }
 }
 

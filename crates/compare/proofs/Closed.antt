@@ -4,18 +4,16 @@ use mathlib.Core.List.{List, ◌++◌}
 use Prim.Native.Nat.{ℕ, ◌*◌, ◌≤◌}
 use native.Mathlib.Omega.{arith}
 use lib.ListN.{take, replicate}
-use Rattle.std.specs.Prelude.{true, false, Option}
+use Rattle.std.specs.Prelude.{true, false, Option, Ok, Err}
 use Rattle.std.specs.Io.KnownBytes.{Appends}
 use Rattle.std.proofs.Common.{append_assoc}
 use Rattle.std.proofs.lemmas.List.{append-nil, take-replicate}
 use Rattle.model.specs.State.{memory}
-use Rattle.model.specs.Answers.{refusal_number, ImageNumbers, image_numbers}
+use Rattle.model.specs.Answers.{refusal_number, ImageNumbers, image_numbers, Verdict}
 use Rattle.model.specs.Image.{ptl_of, image_by}
 use Rattle.model.specs.Console.{refused_line}
-use Rattle.model.specs.declared.ImageAnswer.TheVariants.{Image, NotImage}
 use Rattle.model.specs.declared.Refusal.{Refusal}
-use Rattle.model.specs.declared.Verdict.{Verdict}
-use Rattle.model.specs.declared.Verdict.TheVariants.{Granted, Refused}
+use Rattle.model.specs.declared.Written.{Written}
 use Rattle.laws.proofs.Granted.{refused}
 use Rattle.session.specs.Series.{admits}
 use Rattle.files.proofs.Known.{appended}
@@ -48,23 +46,23 @@ module _ (s : Spoken Desk) (script first : List ℕ) (d : Desk) (a b : Option (L
 
 -- ---- the image, as the reader answered it
 module _ (file : List ℕ) (pages : ℕ) (script : List ℕ) where
-  pub text_granted : {ptl start frames : ℕ} → image_numbers (Image ptl start frames) ≡ admitted file pages
+  pub text_granted : {w : Written} → image_numbers (Ok w) ≡ admitted file pages
       → compare_text file pages script ≡ closed (talk_after spoken (begun_with file pages) script)
   unfolding compare_text
-  text_granted {ptl} {start} {frames} = by (admits file pages)
+  text_granted {w} = by (admits file pages)
     where
-      by : (v : Verdict) → image_numbers (Image ptl start frames) ≡ (image_by v file).numbers
+      by : (v : Verdict) → image_numbers (Ok w) ≡ (image_by v file).numbers
           → text_by spoken v file pages script ≡ closed (talk_after spoken (begun_with file pages) script)
-      by Granted e = refl
-      by (Refused r) e = refused r (sym (ap (λ (n : ImageNumbers). n.verdict.refused) e))
+      by (Ok tt) e = refl
+      by (Err r) e = refused r (sym (ap (λ (n : ImageNumbers). n.verdict.refused) e))
 
-  pub text_refused : (r : Refusal) → image_numbers (NotImage r) ≡ admitted file pages → refused_line (refusal_number r) ≡ compare_text file pages script
+  pub text_refused : (r : Refusal) → image_numbers (Err r) ≡ admitted file pages → refused_line (refusal_number r) ≡ compare_text file pages script
   unfolding compare_text
   text_refused r = by (admits file pages)
     where
-      by : (v : Verdict) → image_numbers (NotImage r) ≡ (image_by v file).numbers → refused_line (refusal_number r) ≡ text_by spoken v file pages script
-      by Granted e = refused r (ap (λ (n : ImageNumbers). n.verdict.refused) e)
-      by (Refused q) e = ap (λ (n : ImageNumbers). refused_line n.verdict.refused) e
+      by : (v : Verdict) → image_numbers (Err r) ≡ (image_by v file).numbers → refused_line (refusal_number r) ≡ text_by spoken v file pages script
+      by (Ok tt) e = refused r (ap (λ (n : ImageNumbers). n.verdict.refused) e)
+      by (Err q) e = ap (λ (n : ImageNumbers). refused_line n.verdict.refused) e
 
 -- what is lent is a part of arrays of zeros
 pub zeros : (k n : ℕ) → k ≤ n → replicate {A = ℕ} k 0 ≡ take k (replicate n 0)

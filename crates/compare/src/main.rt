@@ -13,11 +13,10 @@ ghost use Rattle.comparison.specs.Begun.{begun as begins};
 ghost use Rattle.comparison.specs.Compare.{closed, compare_text};
 
 use comparison::{Standing, Stretch};
-use model::ImageAnswer;
+use model::Written;
 use std::io;
 use std::io::{Read, Write};
 use text::reading;
-use text::reading::Part;
 
 fn fail<E: Write>(errors: &mut E, message: &[u8]) -> io::Result<()>
     ensures { OnOk result (Appends (E.contents errors.old) (E.contents errors.new) message.now) }
@@ -50,8 +49,7 @@ fn go<W: Write>(
     };
     while at.place < script.len() {
         let next = comparison::speak(at, main, swap, memory, rights, script, out);
-        let filled = next.filled;
-        to.write_all(&out[..filled])?;
+        to.write_all(&out[..next.filled])?;
         at = next;
     }
     Ok(at.standing)
@@ -61,9 +59,7 @@ fn go<W: Write>(
 // and `same LINES`, where no line has ended it.
 fn compare<W: Write>(
     file: &[u8],
-    ptl: u32,
-    start: u32,
-    frames: u32,
+    written: Written,
     main: &mut [u8],
     swap: &mut [u8],
     memory: &mut [u8],
@@ -72,16 +68,14 @@ fn compare<W: Write>(
     out: &mut [u8],
     to: &mut W,
 ) -> io::Result<()>
-    requires { Read file.now ptl start frames × (length memory.old ≡ 4096 * ptl) × (9000 ≤ length out.old) × (length script.now ≤ 65536) }
+    requires { Read file.now written × (length memory.old ≡ 4096 * written.ptl) × (9000 ≤ length out.old) × (length script.now ≤ 65536) }
     ensures { OnOk result (Appends (W.contents to.old) (W.contents to.new)
         (closed (talk_after spoken (begins file.now (both_memories main.old swap.old) memory.old rights.old) script.now))) }
 {
-    let begun = comparison::begin(file, ptl, start, frames, main, swap, memory, rights, out);
-    let filled = begun.filled;
-    to.write_all(&out[..filled])?;
-    let first = begun.standing;
-    if first.goes_on {
-        let last = go(first, main, swap, memory, rights, script, out, to)?;
+    let begun = comparison::begin(file, written, main, swap, memory, rights, out);
+    to.write_all(&out[..begun.filled])?;
+    if begun.standing.goes_on {
+        let last = go(begun.standing, main, swap, memory, rights, script, out, to)?;
         let end = comparison::close(last, out);
         to.write_all(&out[..end])?;
     }
@@ -106,23 +100,21 @@ fn with_file<R: Read, W: Write, E: Write>(
     }
     let mut out = [0; 65536];
     match comparison::admit(file, pages) {
-        ImageAnswer::NotImage(refusal) => {
+        Err(refusal) => {
             let filled = comparison::turned_away(refusal, &mut out);
             to.write_all(&out[..filled])
         }
-        ImageAnswer::Image { ptl, start, frames } => {
+        Ok(written) => {
             let mut main = [0; 262144];
             let mut swap = [0; 262144];
             let mut memory = [0; 262144];
             let mut rights = [0; 64];
             let a = 4096 * (pages as usize);
-            let n = ptl as usize;
+            let n = written.ptl as usize;
             let s = 4096 * n;
             compare(
                 file,
-                ptl,
-                start,
-                frames,
+                written,
                 &mut main[..a],
                 &mut swap[..s],
                 &mut memory[..s],
@@ -163,23 +155,20 @@ fn main(rt: HostRuntime) -> io::Result<()> {
         );
     }
     let digits = files::argument(&rt, 2, &mut word);
-    let Part::Number { value, next } = reading::number_at(&word[..digits], 0, 4294967295) else {
-        return fail(
-            &mut errors,
-            b"compare: MAIN_PAGES is a decimal number below 2^32\n",
-        );
+    let pages = match reading::number_at(&word[..digits], 0, u32::MAX) {
+        Ok(n) if n.next == digits => n.value,
+        _ => {
+            return fail(
+                &mut errors,
+                b"compare: MAIN_PAGES is a decimal number below 2^32\n",
+            );
+        }
     };
-    if next != digits {
-        return fail(
-            &mut errors,
-            b"compare: MAIN_PAGES is a decimal number below 2^32\n",
-        );
-    }
     let length = files::argument(&rt, 1, &mut name);
     match files::open_read(&rt, &name[..length]) {
         Ok(mut file) => with_descriptor(
             &mut file,
-            value,
+            pages,
             &mut rt.stdin(),
             &mut rt.stdout(),
             &mut errors,

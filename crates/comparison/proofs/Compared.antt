@@ -1,13 +1,13 @@
 -- A comparison under way, a page at a time (`same_page_lem`), and the pages of a machine that stands: what is handed out for each is the flat
 -- memory's (`page_flat`).
-use mathlib.Core.Path.{◌≡◌, refl, ap, ◌∙◌}
-use mathlib.Core.Bool.{Bool, ◌&&◌, and_assoc}
+use mathlib.Core.Path.{◌≡◌, refl, sym, ap, ap₂, ◌∙◌}
+use mathlib.Core.Bool.{Bool, true, false, ◌&&◌, and_assoc}
 use mathlib.Core.List.{List, [], ◌∷◌}
 use Prim.Native.Nat.{ℕ, zero, suc, ◌+◌, ◌*◌, ◌≤◌, ◌<◌}
 use native.Mathlib.Nat.{not-suc-le-zero}
 use native.Mathlib.Omega.{arith}
 use lib.Dec.{eqb}
-use lib.ListN.{length, take, drop, length-drop}
+use lib.ListN.{length, take, drop, length-drop, drop_of_length-le}
 use lib.Seq.{drop-drop}
 use Rattle.model.specs.Bytes.{same, page}
 use Rattle.model.specs.State.{State}
@@ -20,8 +20,19 @@ use Rattle.laws.proofs.Bytes.{length-page}
 use Rattle.laws.proofs.Seated.{in_frames}
 use Rattle.laws.proofs.Host.{view_flat}
 use Rattle.host.specs.Home.{Reachable}
-use Rattle.words.proofs.Compared.{So}
 use Rattle.comparison.specs.Both.{Stands}
+
+-- what the first i bytes said, and the bytes from i on
+abbrev pub So : (a b : List ℕ) → Bool → ℕ → Type 0
+So a b equal i = (equal && same (drop i a) (drop i b)) ≡ same a b
+
+and_true : (x : Bool) → (x && true) ≡ x
+and_true true = refl
+and_true false = refl
+
+pub same_end : (a b : List ℕ) (equal : Bool) (i : ℕ) → So a b equal i → length a ≤ i → length b ≤ i → equal ≡ same a b
+unfolding same
+same_end a b equal i e p q = sym (and_true equal) ∙ ap (λ x. equal && x) (sym (ap₂ same (drop_of_length-le a p) (drop_of_length-le b q))) ∙ e
 
 -- ---- two lists are equal where their first n elements are, and those behind
 same_split : (n : ℕ) (a b : List ℕ) → n ≤ length a → n ≤ length b → (same (take n a) (take n b) && same (drop n a) (drop n b)) ≡ same a b

@@ -7,7 +7,8 @@ use Prim.Native.Nat.{ℕ, suc, ◌*◌}
 use lib.Dec.{eqb}
 use lib.ListN.{length, drop, length-replicate}
 use borrow.Author.Tests.{eq-eqb, eqb-true}
-use Rattle.std.specs.Prelude.{if◌then◌else◌}
+use Rattle.std.specs.Prelude.{if◌then◌else◌, Ok, Err}
+use Rattle.model.specs.Answers.{Verdict}
 use Rattle.model.specs.Bytes.{same}
 use Rattle.model.specs.State.{Memory}
 use Rattle.model.specs.Pages.{virtual}
@@ -16,8 +17,6 @@ use Rattle.model.specs.Image.{ptl_of, load_call}
 use Rattle.model.specs.Series as series
 use Rattle.model.specs.Series.{SeriesStep, calls, runs, reads, writes, views, replies, after, after_step, after_all}
 use Rattle.model.specs.declared.Pcs.{Pcs}
-use Rattle.model.specs.declared.Verdict.{Verdict}
-use Rattle.model.specs.declared.Verdict.TheVariants.{Granted, Refused}
 use Rattle.laws.proofs.Choice.{and_both, pass_none, pass_more}
 use Rattle.laws.proofs.Formed.{load_facts, image_onward}
 use Rattle.plainmodel.specs.Load as plain-load
@@ -43,7 +42,7 @@ use Rattle.comparison.specs.Line.{compared, both_after, spoken_by, spoken}
 use Rattle.comparison.specs.Compare.{closed, begun_with, text_by, compare_text}
 use Rattle.comparison.specs.Never.{taken, uncompared, NeverDiffers}
 use Rattle.comparison.specs.declared.asked.Asked.{Asked}
-use Rattle.comparison.specs.declared.asked.Asked.TheVariants.{Calls, Bad}
+use Rattle.std.specs.Prelude.{Result, Ok, Err}
 
 same_self : (l : List ℕ) → same l l ≡ true
 unfolding same
@@ -128,12 +127,12 @@ module _ (n : Numbers) (bytes : List ℕ) (b : Both) (h : Alike b) where
 abbrev LineAlike : Spoken Desk → Type 0
 LineAlike s = s.goes_on ≡ true → Alike s.desk.machines
 
-line_same : (a : Asked) (number : ℕ) (l : List ℕ) (b : Both) → Alike b
+line_same : (a : Result Asked ℕ) (number : ℕ) (l : List ℕ) (b : Both) → Alike b
     → (spoken_by compared a number l b ≡ spoken_by taken a number l b) × LineAlike (spoken_by taken a number l b)
 unfolding spoken_by
-line_same (Calls c n) number l b h =
-    (as_taken n (bytes_of (drop n.hex l)) b h c number, λ _. alike_after n (bytes_of (drop n.hex l)) b h c)
-line_same (Bad column) number l b h = (refl, λ e. absurd (true≢false (sym e)))
+line_same (Ok a) number l b h =
+    let bytes = bytes_of (drop a.numbers.hex l) in (as_taken a.numbers bytes b h a.call number, λ _. alike_after a.numbers bytes b h a.call)
+line_same (Err column) number l b h = (refl, λ e. absurd (true≢false (sym e)))
 
 -- ---- the lines of a script
 by_goes : (s t : Spoken Desk) → s ≡ t → LineAlike t → (x y : Desk → Talk Desk) → ((d : Desk) → Alike d.machines → x d ≡ y d)
@@ -181,8 +180,8 @@ never_differs file pages script = by (admits file pages)
     s = begun_with file pages
 
     by : (v : Verdict) → text_by spoken v file pages script ≡ text_by uncompared v file pages script
-    by Granted =
+    by (Ok tt) =
         ap closed (by_goes s s refl
         (loaded_alike file _ _ _ (length-replicate {A = ℕ} (4096 * ptl_of file) 0) (length-replicate {A = ℕ} (ptl_of file) 0))
         (λ x. talk spoken 0 x (lines_of script)) (λ x. talk uncompared 0 x (lines_of script)) (talk_same (lines_of script) 0))
-    by (Refused r) = refl
+    by (Err r) = refl

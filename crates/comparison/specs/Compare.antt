@@ -1,11 +1,9 @@
 -- The program `compare`: what it writes for an image, a number of main pages and a script.
-use Rattle.std.specs.Prelude.{Bool, true, ◌≡◌, List, [], ◌++◌, ℕ, ◌*◌, replicate, if◌then◌else◌}
+use Rattle.std.specs.Prelude.{Bool, true, ◌≡◌, List, [], ◌++◌, ℕ, ◌*◌, replicate, if◌then◌else◌, Ok, Err}
 use Rattle.model.specs.State.{memory}
-use Rattle.model.specs.Answers.{refusal_number}
+use Rattle.model.specs.Answers.{refusal_number, Verdict}
 use Rattle.model.specs.Image.{ptl_of}
 use Rattle.model.specs.Console.{refused_line}
-use Rattle.model.specs.declared.Verdict.{Verdict}
-use Rattle.model.specs.declared.Verdict.TheVariants.{Granted, Refused}
 use Rattle.talk.specs.Script.{Spoken, Talk, Speech, talk_after}
 use Rattle.talk.specs.Stretch.{point, joined, Stretches}
 use Rattle.session.specs.Series.{admits}
@@ -30,8 +28,8 @@ begun_with file pages =
 
 -- the whole text, by what is said to a line
 abbrev pub text_by : Speech Desk → Verdict → List ℕ → ℕ → List ℕ → List ℕ
-text_by speech Granted file pages script = closed (talk_after speech (begun_with file pages) script)
-text_by speech (Refused r) file pages script = refused_line (refusal_number r)
+text_by speech (Ok tt) file pages script = closed (talk_after speech (begun_with file pages) script)
+text_by speech (Err r) file pages script = refused_line (refusal_number r)
 
 unfoldable pub compare_text : List ℕ → ℕ → List ℕ → List ℕ
 compare_text file pages script = text_by spoken (admits file pages) file pages script
@@ -39,6 +37,6 @@ compare_text file pages script = text_by spoken (admits file pages) file pages s
 -- the same, piece by piece: all that the program writes for an image that is loaded is the definition's
 abbrev pub WholeText : Type 0
 WholeText = (file : List ℕ) (pages : ℕ) (script : List ℕ) (ts : List (List ℕ)) (last : Desk)
-    → admits file pages ≡ Granted → (begun_with file pages).goes_on ≡ true
+    → admits file pages ≡ Ok tt → (begun_with file pages).goes_on ≡ true
     → Stretches spoken script (point 0 (begun_with file pages).desk 0) ts last
     → compare_text file pages script ≡ (begun_with file pages).text ++ (joined ts ++ closing last.goes_on last.lines)

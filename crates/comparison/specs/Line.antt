@@ -1,5 +1,5 @@
 -- What a line makes of what stands: each call is made on both machines, and they are compared.
-use Rattle.std.specs.Prelude.{◌&&◌, List, ◌++◌, ℕ, drop, if◌then◌else◌}
+use Rattle.std.specs.Prelude.{◌&&◌, List, ◌++◌, ℕ, drop, Result, Ok, Err, if◌then◌else◌}
 use Rattle.model.specs.Bytes.{same}
 use Rattle.text.specs.Reading.{bytes_of}
 use Rattle.answerlines.specs.Lines.{bad_text}
@@ -13,7 +13,6 @@ use Rattle.comparison.specs.Both.{Both, agree}
 use Rattle.comparison.specs.Desk.{Desk, going, over}
 use Rattle.comparison.specs.Grammar.{asked_of}
 use Rattle.comparison.specs.declared.asked.Asked.{Asked}
-use Rattle.comparison.specs.declared.asked.Asked.TheVariants.{Calls, Bad}
 
 -- the plain engine's answer, beside the paged machine's; where they differ, or what stands then does, "`differ LINE` behind the answer"
 abbrev pub compared : ℕ → Both → List ℕ → List ℕ → Spoken Desk
@@ -32,9 +31,9 @@ abbrev pub called : Call → Numbers → List ℕ → ℕ → Both → Spoken De
 called c n bytes number b = called_by compared c n bytes number b
 
 -- the n-th line of the script; "`bad LINE COLUMN` ends it too"
-unfoldable pub spoken_by : (ℕ → Both → List ℕ → List ℕ → Spoken Desk) → Asked → ℕ → List ℕ → Both → Spoken Desk
-spoken_by judged (Calls c n) number l b = called_by judged c n (bytes_of (drop n.hex l)) number b
-spoken_by judged (Bad column) number l b = over number b (bad_text number column)
+unfoldable pub spoken_by : (ℕ → Both → List ℕ → List ℕ → Spoken Desk) → Result Asked ℕ → ℕ → List ℕ → Both → Spoken Desk
+spoken_by judged (Ok a) number l b = called_by judged a.call a.numbers (bytes_of (drop a.numbers.hex l)) number b
+spoken_by judged (Err column) number l b = over number b (bad_text number column)
 
 unfoldable pub spoken : Speech Desk
 spoken number l d = spoken_by compared (asked_of l) number l d.machines

@@ -9,16 +9,11 @@ use host::view::page_part;
 use model::{Machine, VirtualPage};
 use plainmodel::Plain;
 
+#[tactic(auto, using(text::proofs::Words::equal_same))]
 fn same_registers(a: [u32; 32], b: [u32; 32]) -> bool
     ensures { result ≡ bytes.same a b }
 {
-    let mut equal = true;
-    let mut i = 0;
-    while i < 32 {
-        equal = equal & (a[i] == b[i]);
-        i += 1;
-    }
-    equal
+    a == b
 }
 
 // A page of the guest, "from main memory or from swap as its entry says", beside that of the plain memory.
@@ -37,7 +32,7 @@ fn same_page<'a>(
     let part = page_part(s, main, swap, page);
     let start = 4096 * (page.0 as usize);
     let end = start + 4096;
-    words::same(part, &memory[start..end])
+    part == &memory[start..end]
 }
 
 // "any byte of the guest's memory": all its pages, whatever the rights.
@@ -46,10 +41,8 @@ fn same_memory<'a>(m: Machine, main: &'a [u8], swap: &'a [u8], memory: &[u8]) ->
     ensures { result ≡ bytes.same (flat_bytes m.shape (states.memory main.now swap.now)) memory.now }
 {
     let mut equal = true;
-    let mut x = 0;
-    while x < m.shape.ptl {
+    for x in 0..m.shape.ptl {
         equal = equal & same_page(m, main, swap, memory, VirtualPage(x));
-        x += 1;
     }
     equal
 }

@@ -21,7 +21,7 @@ ghost use Rattle.comparison.specs.Compare.{closing};
 ghost use Rattle.comparison.specs.Promises.{BeginPromise};
 
 use answers::refusal_number;
-use model::{ImageAnswer, Machine, Refusal, Verdict};
+use model::{ImageAnswer, Machine, Refusal, Written};
 use plainmodel::Plain;
 use text::lines::refused_line;
 
@@ -54,21 +54,13 @@ pub fn admit(file: &[u8], pages: u32) -> ImageAnswer
     ensures { image_numbers result ≡ admitted file.now pages }
 {
     if 263256 < file.len() {
-        return ImageAnswer::NotImage(Refusal::Room);
+        return Err(Refusal::Room);
     }
-    match image::read(file) {
-        ImageAnswer::NotImage(refusal) => ImageAnswer::NotImage(refusal),
-        ImageAnswer::Image { ptl, start, frames } => {
-            if 64 < pages {
-                return ImageAnswer::NotImage(Refusal::Room);
-            }
-            ImageAnswer::Image {
-                ptl: ptl,
-                start: start,
-                frames: frames,
-            }
-        }
+    let written = image::read(file)?;
+    if 64 < pages {
+        return Err(Refusal::Room);
     }
+    Ok(written)
 }
 
 // `refused N`, and no line of the script is done.
@@ -82,16 +74,14 @@ pub fn turned_away(refusal: Refusal, out: &mut [u8]) -> usize
 // The image is loaded into both machines. Only paged loading may refuse it, by its main pages.
 pub fn begin(
     file: &[u8],
-    ptl: u32,
-    start: u32,
-    frames: u32,
+    written: Written,
     main: &mut [u8],
     swap: &mut [u8],
     memory: &mut [u8],
     rights: &mut [u8],
     out: &mut [u8],
 ) -> Told
-    requires { Read file.now ptl start frames × (length memory.old ≡ 4096 * ptl) × (9000 ≤ length out.old) }
+    requires { Read file.now written × (length memory.old ≡ 4096 * written.ptl) × (9000 ≤ length out.old) }
     ensures begin_promise { BeginPromise file.now main.old swap.old memory.old rights.old
         out.old result main.new swap.new memory.new rights.new out.new }
     ensures stands { (result.standing.goes_on ≡ true → Stands (states.state result.standing.machine main.new swap.new) memory.new)
@@ -99,18 +89,15 @@ pub fn begin(
 {
     let handed = loading::load(file, main, swap);
     let loaded = plainloading::load(file, memory, rights);
-    let machine = handed.machine;
-    let verdict = handed.verdict;
-    let plain = loaded.plain;
-    match verdict {
-        Verdict::Refused(refusal) => {
-            step::told(machine, plain, 0, false, turned_away(refusal, out))
+    match handed.verdict {
+        Err(refusal) => {
+            let filled = turned_away(refusal, out);
+            step::told(handed.machine, loaded.plain, 0, false, filled)
         }
-        Verdict::Granted => {
-            let pages = [ptl];
-            let numbers = [start, frames];
-            let filled = answerlines::numbers_line(out, 0, b"loaded", &pages, &numbers);
-            step::told(machine, plain, 0, true, filled)
+        Ok(()) => {
+            let numbers = [written.start, written.frames];
+            let filled = answerlines::numbers_line(out, 0, b"loaded", &[written.ptl], &numbers);
+            step::told(handed.machine, loaded.plain, 0, true, filled)
         }
     }
 }
@@ -151,15 +138,14 @@ pub fn speak(
             out,
             filled,
         );
-        let next = told.standing;
-        at = next;
+        at = told.standing;
         filled = told.filled;
-        place = if next.goes_on { end + 1 } else { script.len() };
+        place = if at.goes_on { end + 1 } else { script.len() };
     }
     Stretch {
         standing: at,
-        place: place,
-        filled: filled,
+        place,
+        filled,
     }
 }
 
@@ -171,6 +157,5 @@ pub fn close(at: Standing, out: &mut [u8]) -> usize
     if !at.goes_on {
         return 0;
     }
-    let lines = [at.lines];
-    answerlines::numbers_line(out, 0, b"same", &lines, &[])
+    answerlines::numbers_line(out, 0, b"same", &[at.lines], &[])
 }

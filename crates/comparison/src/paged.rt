@@ -9,7 +9,7 @@ ghost use Rattle.session.specs.Answers.{Says};
 ghost use Rattle.comparison.specs.Answers as answers;
 
 use answers::refusal_number;
-use model::{Machine, RunAnswer};
+use model::Machine;
 use script::Call;
 use script::parts::Numbers;
 use session::calls;
@@ -23,24 +23,17 @@ fn run(m: Machine, main: &mut [u8], swap: &mut [u8], limit: u32, out: &mut [u8],
         (answers.ran (run_call (state m main.old swap.old) limit)) }
 {
     let result = machine::run(m, main, swap, limit);
-    let after = result.machine;
-    let answer = result.answer;
-    match answer {
-        RunAnswer::NotRun(refusal) => {
-            calls::left(after, refused_line(out, at, refusal_number(refusal)))
-        }
-        RunAnswer::Ran {
-            stop,
-            finished,
-            loads: _,
-            copied: _,
-        } => {
-            let number = answers::stop_number(stop);
-            let why = [number, answers::stop_detail(stop)];
-            let count = [finished];
+    match result.answer {
+        Err(refusal) => calls::left(
+            result.machine,
+            refused_line(out, at, refusal_number(refusal)),
+        ),
+        Ok(ran) => {
+            let number = answers::stop_number(ran.stop);
+            let why = [number, answers::stop_detail(ran.stop)];
             calls::left(
-                after,
-                answerlines::numbers_line(out, at, b"run", &why, &count),
+                result.machine,
+                answerlines::numbers_line(out, at, b"run", &why, &[ran.finished]),
             )
         }
     }

@@ -11,7 +11,6 @@ ghost use Rattle.comparison.specs.Desk.{desk, told_of, Tells};
 ghost use Rattle.comparison.specs.Line.{called, spoken};
 
 use crate::agree::agree;
-use crate::asked::Asked;
 use crate::{Standing, Told, asked, paged};
 use answerlines::numbers_line;
 use model::Machine;
@@ -19,7 +18,6 @@ use plainmodel::Plain;
 use script::Call;
 use script::parts::Numbers;
 use text::put;
-use text::reading::same;
 
 // What a line leaves.
 pub(crate) fn told(machine: Machine, plain: Plain, lines: u32, goes_on: bool, filled: usize) -> Told
@@ -27,12 +25,12 @@ pub(crate) fn told(machine: Machine, plain: Plain, lines: u32, goes_on: bool, fi
 {
     Told {
         standing: Standing {
-            machine: machine,
-            plain: plain,
-            lines: lines,
-            goes_on: goes_on,
+            machine,
+            plain,
+            lines,
+            goes_on,
         },
-        filled: filled,
+        filled,
     }
 }
 
@@ -52,8 +50,7 @@ fn judged(
     if alike {
         return told(machine, plain, number, true, at);
     }
-    let line = [number];
-    let filled = numbers_line(out, at, b"differ", &line, &[]);
+    let filled = numbers_line(out, at, b"differ", &[number], &[]);
     told(machine, plain, number, false, filled)
 }
 
@@ -89,7 +86,7 @@ fn call(
     let plain = ours.plain;
     let to = theirs.filled;
     let end = ours.filled;
-    let answer = same(&mine[..end], &other[..to]);
+    let answer = mine[..end] == other[..to];
     let alike = answer & agree(machine, plain, main, swap, memory);
     let behind = put(out, filled, &mine[..end]);
     judged(machine, plain, alike, number, out, behind)
@@ -114,14 +111,15 @@ pub(crate) fn step(
     ensures stands { Stands (state result.standing.machine main.new swap.new) memory.new × (result.standing.lines ≡ number) }
 {
     match asked::read(line) {
-        Asked::Calls(c, n) => {
-            let hex = n.hex;
-            let digits = &line[hex..];
+        Ok(asked) => {
+            let c = asked.call;
+            let n = asked.numbers;
+            let digits = &line[n.hex..];
             call(
                 c, n, at, main, swap, memory, rights, digits, number, out, filled,
             )
         }
-        Asked::Bad(column) => {
+        Err(column) => {
             let bad = [number, column as u32];
             let last = numbers_line(out, filled, b"bad", &bad, &[]);
             told(at.machine, at.plain, number, false, last)

@@ -1,12 +1,10 @@
 -- What makes a code page `Found`, and the page of an address; what it is good for.
 use mathlib.Core.Path.{◌≡◌, refl, sym, ap, ◌∙◌}
 use mathlib.Core.Bool.{Bool, true, false, not, true≢false}
-use mathlib.Core.List.{List, [], ◌∷◌}
-use mathlib.Core.Logic.{⊎_elim}
+use mathlib.Core.List.{List}
 use Prim.Native.Nat.{ℕ, ◌^◌, ◌<◌}
 use native.Mathlib.Omega.{arith}
 use borrow.Author.Tests.{eq-eqb, not-true}
-use types.Run.{OneOf}
 use lib.Dec.{eqb}
 use Rattle.model.specs.Pages.{page_of, offset, main_at}
 use Rattle.model.specs.Table.{entry, ppx, valid}
@@ -58,10 +56,6 @@ module _ (s : Shape) (main : List ℕ) where
   pub uncovered : (c : CodePage) (va : ℕ) → Finds s main va c → (on : Bool) → on ≡ eqb (page_of va).0 c.page.0 → not on ≡ true
       → (i : ℕ) → translate s main false va ≡ At i → ⊥
   uncovered c va h on e z i at = true≢false (sym (eq-eqb _ _ (h i at)) ∙ sym e ∙ not-true on z)
-
--- the tag of what is no place
-pub no_place : {n : ℕ} → n ≡ 2 → OneOf (0 ∷ 1 ∷ []) n → ⊥
-no_place z k = ⊎_elim (λ e. omega (arith, z, e)) (λ e. omega (arith, z, e)) k
 
 -- a code page goes over to a main memory with the same accesses
 pub found_over : (s : Shape) (main main' : List ℕ) (c : CodePage) → ((w : Bool) (va : ℕ) → translate s main' w va ≡ translate s main w va)

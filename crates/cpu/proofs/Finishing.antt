@@ -1,13 +1,8 @@
--- Which outcomes finish their instruction: by the tag, by the way that the attempt went, and none whose fetch goes to no place.
+-- Which outcomes finish their instruction: by the variants that they are not, by the way that the attempt went, and none whose fetch goes to no place.
 use mathlib.Core.Path.{◌≡◌, refl, sym, ap, subst}
 use mathlib.Core.Bool.{Bool, false}
-use mathlib.Core.Logic.{⊎_elim}
-use mathlib.Core.List.{List, [], ◌∷◌}
-use Prim.Native.Nat.{ℕ, ◌<◌}
-use native.Mathlib.Omega.{arith}
-use types.Run.{OneOf}
-use denote.Enum.Declared.{tag_of}
-use Rattle.model.specs.contracts.Outcome.{the_type}
+use mathlib.Core.List.{List}
+use Prim.Native.Nat.{ℕ}
 use Rattle.model.specs.Attempt.{attempt}
 use Rattle.model.specs.declared.Pcs.{Pcs}
 use Rattle.model.specs.declared.Access.{Access}
@@ -20,24 +15,6 @@ use Rattle.cpu.specs.declared.access.Reached.{Reached}
 use Rattle.cpu.specs.declared.access.Reached.TheVariants.{Misaligned, Illegal, Fault, At}
 use Rattle.cpu.specs.Reach.{reach, loaded}
 use Rattle.cpu.proofs.Ways.{attempt_ended}
-
--- ---- by the tag
-another : {n : ℕ} → n < 2 → OneOf (2 ∷ 3 ∷ 4 ∷ []) n → ⊥
-another h k = ⊎_elim (λ e. omega (arith, h, e)) (⊎_elim (λ e. omega (arith, h, e)) (λ e. omega (arith, h, e))) k
-
-pub unfinished : (o : Outcome) → OneOf (2 ∷ 3 ∷ 4 ∷ []) (tag_of the_type o) → ¬ Finished o
-unfinished (Done q) k = λ f. another (omega arith) k
-unfinished (Wrote q i) k = λ f. another (omega arith) k
-unfinished (Trapped q n) k = λ f. f
-unfinished (Missing va) k = λ f. f
-unfinished (Stopped s) k = λ f. f
-
-pub finished : (o : Outcome) → OneOf (0 ∷ 1 ∷ []) (tag_of the_type o) → Finished o
-finished (Done q) k = tt
-finished (Wrote q i) k = tt
-finished (Trapped q n) k = ⊎_elim (λ e. omega (arith, e)) (λ e. omega (arith, e)) k
-finished (Missing va) k = ⊎_elim (λ e. omega (arith, e)) (λ e. omega (arith, e)) k
-finished (Stopped s) k = ⊎_elim (λ e. omega (arith, e)) (λ e. omega (arith, e)) k
 
 -- ---- by the variants that it is not
 pub unfinished_not : (o : Outcome) → ((q : Pcs) → o ≡ Done q → ⊥) → ((q : Pcs) (i : ℕ) → o ≡ Wrote q i → ⊥) → ¬ Finished o

@@ -2,11 +2,11 @@
 -- memory.
 use mathlib.Core.Path.{◌≡◌, refl, sym, ap, ◌∙◌}
 use mathlib.Core.Bool.{Bool, true, false}
-use mathlib.Core.List.{List, [], ◌∷◌}
-use mathlib.Core.Logic.{⊎_elim}
-use Prim.Native.Nat.{ℕ, ◌+◌, ◌*◌, ◌%◌, ◌≤◌}
+use mathlib.Core.List.{List}
+use Prim.Native.Nat.{ℕ, zero, suc, ◌+◌, ◌*◌, ◌%◌, ◌^◌}
+use native.Mathlib.Nat.{pow-suc}
+use Rattle.std.proofs.lemmas.Nat.{pow-add}
 use native.Mathlib.Omega.{arith}
-use types.Run.{OneOf}
 use borrow.Author.Tests.{eq-eqb, ne_eqb}
 use lib.ListN.{length, set}
 use Rattle.std.specs.Prelude.{if◌then◌else◌}
@@ -28,7 +28,7 @@ use Rattle.laws.proofs.Access.{in_main}
 use Rattle.laws.proofs.Choice.{clash}
 use Rattle.cpu.specs.declared.access.Reached.{Reached}
 use Rattle.cpu.specs.declared.access.Reached.TheVariants.{Misaligned, Illegal, Fault, At}
-use Rattle.cpu.specs.Reach.{reached_by, reach, ended, loaded, stored, after, load, store}
+use Rattle.cpu.specs.Reach.{reached_by, reach, Ends, ended, loaded, stored, after, load, store}
 
 -- ---- "Writes to GPR 0 are dropped."
 module _ (gpr : List ℕ) (i v : ℕ) where
@@ -63,16 +63,19 @@ placed n va a i e = pick (aligned n va) refl a refl
     pick true eb said.Fault ez = clash (cc)
     pick true eb (said.At j) ez = let q : j ≡ i = cc in record { even = eb; at = ez ∙ ap said.At q }
 
--- the tag of what is no place
-pub elsewhere : {n : ℕ} → n ≡ 3 → OneOf (0 ∷ 1 ∷ 2 ∷ []) n → ⊥
-elsewhere z k = ⊎_elim (λ e. omega (arith, z, e)) (⊎_elim (λ e. omega (arith, z, e)) (λ e. omega (arith, z, e))) k
-
 -- a place that is reached ends within main memory
 pub inside : (s : Shape) (main : List ℕ) → Safe s main → (writing : Bool) (width : Width) (va : ℕ) (r : Reached)
-    → r ≡ reach (size width) va (translate s main writing va) → (i : ℕ) → r ≡ At i → i + size width ≤ length main
+    → r ≡ reach (size width) va (translate s main writing va) → Ends (size width) (length main) r
 inside s main g writing width va r is i at =
     let t : Place (size width) va (translate s main writing va) i = placed _ _ _ i (sym is ∙ at) in
     in_main s main g writing width va i t.even t.at
+
+-- n bytes are a number of 8·n bits
+pub bits_of_bytes : (n : ℕ) → 2 ^ (8 * n) ≡ 256 ^ n
+bits_of_bytes zero = refl
+bits_of_bytes (suc n) =
+    let e : 8 * suc n ≡ 8 * n + 8 = omega arith in
+    ap (λ (k : ℕ). 2 ^ k) e ∙ pow-add 2 (8 * n) 8 ∙ ap (λ (k : ℕ). k * 256) (bits_of_bytes n) ∙ sym (pow-suc 256 n)
 
 -- ---- a load and a store, by what the access came to
 -- where it goes to no place, the outcome is that of r alone
@@ -84,26 +87,26 @@ after_ended gpr bytes va o done Illegal n = refl
 after_ended gpr bytes va o done Fault n = refl
 after_ended gpr bytes va o done (At i) n = absurd (n i refl)
 
-module _ (width : Width) (va : ℕ) (p : Pcs) (gpr bytes : List ℕ) (r : Reached) where
+module _ (n va : ℕ) (p : Pcs) (gpr bytes : List ℕ) (r : Reached) where
   pub load_ended : (signed : Bool) (rd : ℕ) → ((i : ℕ) → r ≡ At i → ⊥) → (o : Outcome) → o ≡ loaded p va r
-      → tried o gpr bytes ≡ load width signed rd va p gpr bytes r
+      → tried o gpr bytes ≡ load n signed rd va p gpr bytes r
   unfolding loaded load
   load_ended signed rd none o e = rw e (after_ended gpr bytes va _ _ r none)
 
-  pub store_ended : (v : ℕ) → ((i : ℕ) → r ≡ At i → ⊥) → (o : Outcome) → o ≡ stored p va r → tried o gpr bytes ≡ store width va v p gpr bytes r
+  pub store_ended : (v : ℕ) → ((i : ℕ) → r ≡ At i → ⊥) → (o : Outcome) → o ≡ stored p va r → tried o gpr bytes ≡ store n va v p gpr bytes r
   unfolding stored store
   store_ended v none o e = rw e (after_ended gpr bytes va _ _ r none)
 
   -- a load at place i: x is read, v written, g left
-  pub load_at : (signed : Bool) (rd i : ℕ) → r ≡ At i → (x : ℕ) → x ≡ number (size width) bytes i
-      → (v : ℕ) → v ≡ (if signed then extend (8 * size width) x else x) → (g : List ℕ) → g ≡ written gpr rd v
-      → (o : Outcome) → o ≡ loaded p va (At i) → tried o g bytes ≡ load width signed rd va p gpr bytes r
+  pub load_at : (signed : Bool) (rd i : ℕ) → r ≡ At i → (x : ℕ) → x ≡ number n bytes i
+      → (v : ℕ) → v ≡ (if signed then extend (8 * n) x else x) → (g : List ℕ) → g ≡ written gpr rd v
+      → (o : Outcome) → o ≡ loaded p va (At i) → tried o g bytes ≡ load n signed rd va p gpr bytes r
   unfolding after loaded load
   load_at signed rd i at x hx v hv g hg o e = rw (e, at, hg, hv, hx) refl
 
   -- a store at place i leaves the bytes b
-  pub store_at : (v i : ℕ) → r ≡ At i → (b : List ℕ) → b ≡ model.store (size width) bytes i v
-      → (o : Outcome) → o ≡ stored p va (At i) → tried o gpr b ≡ store width va v p gpr bytes r
+  pub store_at : (v i : ℕ) → r ≡ At i → (b : List ℕ) → b ≡ model.store n bytes i v
+      → (o : Outcome) → o ≡ stored p va (At i) → tried o gpr b ≡ store n va v p gpr bytes r
   unfolding after stored store
   store_at v i at b hb o e = rw (e, at, hb) refl
 
@@ -124,12 +127,12 @@ module _ (access : Bool → ℕ → Access) (gpr bytes : List ℕ) (p : Pcs) whe
 
   -- a load and a store are what the model makes of them
   pub load_obeys : (width : Width) (signed : Bool) (rd va : ℕ) (r : Reached) → r ≡ reach (size width) va (access false va)
-      → (t : Tried) → t ≡ load width signed rd va p gpr bytes r → t ≡ obey_load access gpr bytes p width signed rd va
+      → (t : Tried) → t ≡ load (size width) signed rd va p gpr bytes r → t ≡ obey_load access gpr bytes p width signed rd va
   unfolding obey_load load
   load_obeys width signed rd va r is t e = e ∙ transfers false width va _ r is
 
   pub store_obeys : (width : Width) (va v : ℕ) (r : Reached) → r ≡ reach (size width) va (access true va)
-      → (t : Tried) → t ≡ store width va v p gpr bytes r → t ≡ obey_store access gpr bytes p width va v
+      → (t : Tried) → t ≡ store (size width) va v p gpr bytes r → t ≡ obey_store access gpr bytes p width va v
   unfolding obey_store store
   store_obeys width va v r is t e = e ∙ transfers true width va _ r is
 

@@ -5,7 +5,7 @@ use Rattle.model.specs.Words.{aligned, extend}
 use Rattle.model.specs.Bytes.{number}
 use Rattle.model.specs.Bytes as bytes
 use Rattle.model.specs.Instruction.{onward, written}
-use Rattle.model.specs.Attempt.{Tried, tried, Width, size}
+use Rattle.model.specs.Attempt.{Tried, tried}
 use Rattle.model.specs.declared.Pcs.{Pcs}
 use Rattle.model.specs.declared.Access.{Access}
 use Rattle.model.specs.declared.Access.TheVariants as says
@@ -47,18 +47,18 @@ after gpr bytes va done Illegal = tried (Stopped (stop.IllegalMemory va)) gpr by
 after gpr bytes va done Fault = tried (Missing va) gpr bytes
 after gpr bytes va done (At i) = done i
 
--- ---- a load and a store of so many bytes, whose access came to r
--- its place, if there is one, ends within n bytes
-abbrev pub Ends : Width → ℕ → Reached → Type 0
-Ends width n r = (i : ℕ) → r ≡ At i → i + size width ≤ n
+-- ---- a load and a store of n bytes, whose access came to r
+-- its place, if there is one, ends within so many bytes
+abbrev pub Ends : ℕ → ℕ → Reached → Type 0
+Ends n most r = (i : ℕ) → r ≡ At i → i + n ≤ most
 
 -- "lb and lh sign extended"
-abbrev pub read : Width → Bool → List ℕ → ℕ → ℕ
-read width signed memory i = if signed then extend (8 * size width) (number (size width) memory i) else number (size width) memory i
+abbrev pub read : ℕ → Bool → List ℕ → ℕ → ℕ
+read n signed memory i = if signed then extend (8 * n) (number n memory i) else number n memory i
 
-unfoldable pub load : Width → Bool → ℕ → ℕ → Pcs → List ℕ → List ℕ → Reached → Tried
-load width signed rd va p gpr memory r =
-    after gpr memory va (λ i. tried (Done (onward_of p)) (written gpr rd (read width signed memory i)) memory) r
+unfoldable pub load : ℕ → Bool → ℕ → ℕ → Pcs → List ℕ → List ℕ → Reached → Tried
+load n signed rd va p gpr memory r =
+    after gpr memory va (λ i. tried (Done (onward_of p)) (written gpr rd (read n signed memory i)) memory) r
 
-unfoldable pub store : Width → ℕ → ℕ → Pcs → List ℕ → List ℕ → Reached → Tried
-store width va v p gpr memory r = after gpr memory va (λ i. tried (Wrote (onward_of p) i) gpr (bytes.store (size width) memory i v)) r
+unfoldable pub store : ℕ → ℕ → ℕ → Pcs → List ℕ → List ℕ → Reached → Tried
+store n va v p gpr memory r = after gpr memory va (λ i. tried (Wrote (onward_of p) i) gpr (bytes.store n memory i v)) r

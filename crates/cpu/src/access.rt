@@ -1,21 +1,50 @@
 // One access: what it comes to before anything is read or written, and the outcome of a load and of a store by it.
-ghost use Rattle.std.specs.Prelude.{◌≡◌, ◌<◌, length};
+ghost use Rattle.std.specs.Prelude.{◌≡◌, Bool, List, ℕ, ◌<◌, length};
+ghost use Rattle.model.specs.declared.Access.{Access};
+ghost use Rattle.model.specs.Attempt.{Width, size};
 ghost use Rattle.model.specs.Instruction.{onward};
 ghost use Rattle.model.specs.Translate.{translate};
-ghost use Rattle.laws.specs.Good.{Fit};
+ghost use Rattle.laws.specs.Good.{Fit, Safe};
 ghost use Rattle.cpu.specs.Reach as rule;
 
 use dlx::decode;
 use model::{Access, Outcome, Pcs, Shape, Stop};
 use paging::table;
 
-// The address is no multiple of the width, the access is illegal, the page is not resident, or the bytes are at this place.
+// The address is no multiple of the width, the access is illegal, the page is not resident, or the bytes are at this place. No Result:
+// each use tells the four apart at once, and none hands an error on.
 #[derive(Clone, Copy)]
 pub enum Reached {
     Misaligned,
     Illegal,
     Fault,
     At(usize),
+}
+
+// A memory, as "One attempt" sees it: how an access to it goes, by what is lent beside its bytes. The paged machine goes by its shape
+// (and the table in the bytes), the flat one by its rights.
+pub trait Reaching: Copy {
+    // What the memory with these bytes says of an access, as `translate` of the model does.
+    ghost access: { Self → List ℕ → Bool → ℕ → Access };
+
+    // What is known of the bytes.
+    ghost ready: { Self → List ℕ → Type 0 };
+
+    // A place ends within the bytes.
+    fn reach(self, m: &[u8], va: u32, width: u32, writing: bool) -> Reached
+        requires { ready self m.now × (0 < width) }
+        ensures value { result ≡ rule.reach width va (access self m.now writing va) }
+        ensures inside { (w : Width) → width ≡ size w → rule.Ends (size w) (length m.now) result };
+}
+
+impl Reaching for Shape {
+    ghost access = { translate };
+
+    ghost ready = { Safe };
+
+    fn reach(self, m: &[u8], va: u32, width: u32, writing: bool) -> Reached {
+        reach(self, m, va, width, writing)
+    }
 }
 
 // The access to va, of `width` bytes.
@@ -27,6 +56,7 @@ pub fn reach(s: Shape, m: &[u8], va: u32, width: u32, writing: bool) -> Reached
         return Reached::Misaligned;
     }
     let a = table::locate(s, m, va, writing);
+    // Its one use: a From would say the same further off.
     match a {
         Access::Illegal => Reached::Illegal,
         Access::Fault => Reached::Fault,
@@ -44,7 +74,9 @@ pub fn pcs_onward(p: Pcs) -> Pcs
     }
 }
 
-// The outcome of a load whose access to va came to r, and of a store.
+// The outcome of a load whose access to va came to r, and of a store: two, for they differ in what is done at the place, and a closure
+// for it would be longer than its arm.
+#[tactic(auto, unfolding(crate::specs::Reach::loaded))]
 pub fn loaded(p: Pcs, va: u32, r: Reached) -> Outcome
     ensures { result ≡ rule.loaded p va r }
 {
@@ -56,6 +88,7 @@ pub fn loaded(p: Pcs, va: u32, r: Reached) -> Outcome
     }
 }
 
+#[tactic(auto, unfolding(crate::specs::Reach::stored))]
 pub fn stored(p: Pcs, va: u32, r: Reached) -> Outcome
     ensures { result ≡ rule.stored p va r }
 {

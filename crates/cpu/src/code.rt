@@ -17,9 +17,7 @@ pub struct CodePage {
 pub fn covers(c: CodePage, va: u32) -> bool
     ensures { result ≡ eqb (page_of va).0 c.page.0 }
 {
-    let x = pages::page_of(va);
-    let y = c.page;
-    x.0 == y.0
+    pages::page_of(va) == c.page
 }
 
 // Where the page of va stands; nowhere, if it may not be read or is not resident.

@@ -1,5 +1,5 @@
-// A load and a store of each width, on any memory: what its access came to is handed in, and says where the bytes are.
-ghost use Rattle.std.specs.Prelude.{◌≡◌, false, List, ℕ, ◌<◌, length};
+// Loads and stores, on any memory: what the access came to is handed in, and says where the bytes are.
+ghost use Rattle.std.specs.Prelude.{◌≡◌, List, ℕ, ◌<◌, ◌≤◌, length};
 ghost use Rattle.model.specs.Instruction.{written};
 ghost use Rattle.model.specs.Attempt as one;
 ghost use Rattle.cpu.specs.Reach as rule;
@@ -19,7 +19,8 @@ pub fn write(g: &mut [u32; 32], rd: u32, x: u32)
     }
 }
 
-pub fn load_byte(
+// A load of N bytes whose access came to r, and a store.
+pub fn load<const N: usize>(
     r: Reached,
     g: &mut [u32; 32],
     p: Pcs,
@@ -28,90 +29,31 @@ pub fn load_byte(
     rd: u32,
     va: u32,
 ) -> Outcome
-    requires { rule.Ends one.byte (length m.now) r × (rd < 32) }
-    ensures { one.tried result g.new m.now
-        ≡ rule.load one.byte signed rd va p g.old m.now r }
+    requires { rule.Ends N (length m.now) r × (rd < 32) × (0 < N) × (N ≤ 4) }
+    ensures { one.tried result g.new m.now ≡ rule.load N signed rd va p g.old m.now r }
 {
     match r {
         Reached::At(i) => {
-            let x = words::byte_at(m, i);
-            write(g, rd, if signed { alu::sext8(x) } else { x });
+            let x = words::number_at::<N>(m, i);
+            let v = if signed {
+                alu::sext(8 * N as u32, x)
+            } else {
+                x
+            };
+            write(g, rd, v);
             access::loaded(p, va, r)
         }
         _ => access::loaded(p, va, r),
     }
 }
 
-pub fn load_half(
-    r: Reached,
-    g: &mut [u32; 32],
-    p: Pcs,
-    m: &[u8],
-    signed: bool,
-    rd: u32,
-    va: u32,
-) -> Outcome
-    requires { rule.Ends one.half (length m.now) r × (rd < 32) }
-    ensures { one.tried result g.new m.now
-        ≡ rule.load one.half signed rd va p g.old m.now r }
+pub fn store<const N: usize>(r: Reached, p: Pcs, m: &mut [u8], va: u32, x: u32) -> Outcome
+    requires { rule.Ends N (length m.old) r × (N ≤ 4) }
+    ensures { (gpr : List ℕ) → one.tried result gpr m.new ≡ rule.store N va x p gpr m.old r }
 {
     match r {
         Reached::At(i) => {
-            let x = words::half_at(m, i);
-            write(g, rd, if signed { alu::sext16(x) } else { x });
-            access::loaded(p, va, r)
-        }
-        _ => access::loaded(p, va, r),
-    }
-}
-
-pub fn load_word(r: Reached, g: &mut [u32; 32], p: Pcs, m: &[u8], rd: u32, va: u32) -> Outcome
-    requires { rule.Ends one.word (length m.now) r × (rd < 32) }
-    ensures { one.tried result g.new m.now
-        ≡ rule.load one.word false rd va p g.old m.now r }
-{
-    match r {
-        Reached::At(i) => {
-            write(g, rd, words::word_at(m, i));
-            access::loaded(p, va, r)
-        }
-        _ => access::loaded(p, va, r),
-    }
-}
-
-pub fn store_byte(r: Reached, p: Pcs, m: &mut [u8], va: u32, x: u32) -> Outcome
-    requires { rule.Ends one.byte (length m.old) r }
-    ensures { (gpr : List ℕ) → one.tried result gpr m.new ≡ rule.store one.byte va x p gpr m.old r }
-{
-    match r {
-        Reached::At(i) => {
-            words::put_byte(m, i, x);
-            access::stored(p, va, r)
-        }
-        _ => access::stored(p, va, r),
-    }
-}
-
-pub fn store_half(r: Reached, p: Pcs, m: &mut [u8], va: u32, x: u32) -> Outcome
-    requires { rule.Ends one.half (length m.old) r }
-    ensures { (gpr : List ℕ) → one.tried result gpr m.new ≡ rule.store one.half va x p gpr m.old r }
-{
-    match r {
-        Reached::At(i) => {
-            words::put_half(m, i, x);
-            access::stored(p, va, r)
-        }
-        _ => access::stored(p, va, r),
-    }
-}
-
-pub fn store_word(r: Reached, p: Pcs, m: &mut [u8], va: u32, x: u32) -> Outcome
-    requires { rule.Ends one.word (length m.old) r }
-    ensures { (gpr : List ℕ) → one.tried result gpr m.new ≡ rule.store one.word va x p gpr m.old r }
-{
-    match r {
-        Reached::At(i) => {
-            words::put_word(m, i, x);
+            words::put_number::<N>(m, i, x);
             access::stored(p, va, r)
         }
         _ => access::stored(p, va, r),

@@ -4,11 +4,10 @@ use mathlib.Core.Logic.{◌⊎◌, inl, inr}
 use mathlib.Core.Bool.{Bool, true, false, true≢false}
 use mathlib.Core.List.{List, [], ◌∷◌}
 use Prim.Native.Nat.{ℕ}
-use Rattle.model.specs.Answers.{refusal_number, VerdictNumbers, verdict_numbers}
+use Rattle.std.specs.Prelude.{Ok, Err}
+use Rattle.model.specs.Answers.{refusal_number, VerdictNumbers, verdict_numbers, Verdict}
 use Rattle.model.specs.Calls.{unless}
 use Rattle.model.specs.declared.Refusal.{Refusal}
-use Rattle.model.specs.declared.Verdict.{Verdict}
-use Rattle.model.specs.declared.Verdict.TheVariants.{Granted, Refused}
 use Rattle.demands.specs.Refusals.{Row, ◌when◌, ◌unless◌, number, Applies, Passed, Exactly, Listed, Decided}
 
 -- no row both applies and does not
@@ -36,8 +35,8 @@ first_unless true x v r rows e t after = inr (t.passes refl, after refl)
 first_unless false x v r rows e t after = inl (t.fails refl, e)
 
 pub last_unless : (test : Bool) (x : Refusal) (r : Row) → refusal_number x ≡ number r → Tells test r
-    → First (verdict_numbers ((unless) test x Granted)).refused (r ∷ [])
-last_unless test x r e t = first_unless test x Granted r [] e t (λ q. refl)
+    → First (verdict_numbers ((unless) test x (Ok tt))).refused (r ∷ [])
+last_unless test x r e t = first_unless test x (Ok tt) r [] e t (λ q. refl)
 
 -- ---- rows whose numbers differ, also from 0
 abbrev pub Unlisted : ℕ → List Row → Type 0
@@ -85,18 +84,18 @@ decided {answer} rows d f = record { exactly = exactly answer Unit rows tt d f; 
 
 -- ---- an outcome for each verdict, which it tells: where the verdict refuses, what `refusing` makes of it
 pub record Answering {O : Type 0} (told : O → VerdictNumbers) (refusing : VerdictNumbers → O) (out : Verdict → O) : Type 0 where
-  pub taken : told (out Granted) ≡ verdict_numbers Granted
-  pub refused : (x : Refusal) → out (Refused x) ≡ refusing (verdict_numbers (Refused x))
+  pub taken : told (out (Ok tt)) ≡ verdict_numbers (Ok tt)
+  pub refused : (x : Refusal) → out (Err x) ≡ refusing (verdict_numbers (Err x))
   pub named : (v : VerdictNumbers) → told (refusing v) ≡ v
 
 module _ {O : Type 0} {told : O → VerdictNumbers} {refusing : VerdictNumbers → O} {out : Verdict → O} (a : Answering told refusing out) where
   answers : (v : Verdict) → verdict_numbers v ≡ told (out v)
-  answers Granted = sym a.taken
-  answers (Refused x) = sym (ap told (a.refused x) ∙ a.named (verdict_numbers (Refused x)))
+  answers (Ok tt) = sym a.taken
+  answers (Err x) = sym (ap told (a.refused x) ∙ a.named (verdict_numbers (Err x)))
 
   pub decides : (v : Verdict) (rows : List Row) → Differ rows → First (verdict_numbers v).refused rows → Decided (told (out v)).refused rows
   decides v rows d f = subst (λ (k : VerdictNumbers). Decided k.refused rows) (answers v) (decided rows d f)
 
   pub unchanged : (v : Verdict) → ¬ ((told (out v)).refused ≡ 0) → out v ≡ refusing (told (out v))
-  unchanged Granted n = absurd (n (ap (λ (k : VerdictNumbers). k.refused) a.taken))
-  unchanged (Refused x) n = a.refused x ∙ ap refusing (answers (Refused x))
+  unchanged (Ok tt) n = absurd (n (ap (λ (k : VerdictNumbers). k.refused) a.taken))
+  unchanged (Err x) n = a.refused x ∙ ap refusing (answers (Err x))

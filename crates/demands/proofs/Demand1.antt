@@ -6,16 +6,15 @@ use mathlib.Core.List.{List, [], ◌∷◌}
 use Prim.Native.Nat.{ℕ}
 use native.Mathlib.Omega.{arith}
 use lib.ListN.{length}
+use Rattle.std.specs.Prelude.{Ok}
 use Rattle.model.specs.State.{Memory, State}
 use Rattle.model.specs.Sound.{fits, sound}
-use Rattle.model.specs.Answers.{verdict_numbers}
+use Rattle.model.specs.Answers.{verdict_numbers, Verdict}
 use Rattle.model.specs.Calls.{machine_verdict, run_verdict, run_by, run_call, permitted, host_verdict, read_by, read_call, write_by, write_call, viewable, view_verdict, view_by, view_call, reply_verdict, reply_by, reply_call}
 use Rattle.model.specs.Image.{ptl_of, frames_of, image_verdict, image_by, image_call, room, load_verdict, load_by, load_call}
 use Rattle.model.specs.declared.Machine.{Machine}
 use Rattle.model.specs.declared.VirtualPage.{VirtualPage}
 use Rattle.model.specs.declared.Refusal.TheVariants.{Rights, Room}
-use Rattle.model.specs.declared.Verdict.{Verdict}
-use Rattle.model.specs.declared.Verdict.TheVariants.{Granted}
 use Rattle.laws.specs.Good.{Good}
 use Rattle.demands.specs.Refusals.{Row, ◌when◌, ◌unless◌, Decided}
 use Rattle.demands.specs.Conditions.{Fits, Denied, SomeDenied, RunTooLong, TransferTooLong, MemoryFits}
@@ -93,7 +92,7 @@ exactly_when = record {
       decides (write_answers p va bytes) (host_verdict true p va (length bytes)) _ (omega arith) (host_first true p va (length bytes) len);
   view = view_exactly;
   reply = λ m i v. decides (reply_answers m i v) (reply_verdict i) _ (omega arith) (reply_first i);
-  image = λ l. decides (image_answers l) (image_verdict l Granted) _ (omega arith) (image_first l Granted [] refl);
+  image = λ l. decides (image_answers l) (image_verdict l (Ok tt)) _ (omega arith) (image_first l (Ok tt) [] refl);
   loading = loading_exactly;
 }
 
@@ -106,7 +105,7 @@ changes_nothing = record {
   write = λ p va bytes. unchanged (write_answers p va bytes) (host_verdict true p va (length bytes));
   view = λ p x. unchanged (view_answers p x) (view_verdict p x);
   reply = λ m i v. unchanged (reply_answers m i v) (reply_verdict i);
-  image = λ l. unchanged (image_answers l) (image_verdict l Granted);
+  image = λ l. unchanged (image_answers l) (image_verdict l (Ok tt));
   loading = λ l m. unchanged (load_answers l m) (load_verdict l m);
 }
 

@@ -3,14 +3,14 @@ use mathlib.Core.Path.{◌≡◌, refl}
 use mathlib.Core.List.{Memᴰ}
 use Prim.Native.Nat.{ℕ}
 use lib.ListN.{get_or}
+use Rattle.std.specs.Prelude.{Ok, Err}
+use Rattle.model.specs.Answers.{Verdict}
 use Rattle.model.specs.Pages.{entry_at}
 use Rattle.model.specs.State.{State}
 use Rattle.model.specs.Run.{uncounted}
 use Rattle.model.specs.Calls.{run_verdict, run_by, run_call}
 use Rattle.model.specs.Series.{Call, runs, reads, writes, views, replies, after}
 use Rattle.model.specs.declared.VirtualPage.{VirtualPage}
-use Rattle.model.specs.declared.Verdict.{Verdict}
-use Rattle.model.specs.declared.Verdict.TheVariants.{Granted, Refused}
 use Rattle.laws.specs.Good.{Good}
 use Rattle.laws.specs.Named.{Off, run_names, names_granted, along_call}
 use Rattle.laws.proofs.Entries.{same_spare}
@@ -25,8 +25,8 @@ off p g (runs n) j h = by (run_verdict p n) h.unnamed
   where
     by : (v : Verdict) → ((x : VirtualPage) → Memᴰ x (names_granted v (run_names n (uncounted p))) → Off (entry_at p.machine.shape x) 4 j)
         → get_or (run_by v p n).state.memory.main j 0 ≡ get_or p.memory.main j 0
-    by Granted clear = run_off n (uncounted p) g (in_main j) (record { unframed = h.unframed; clear = clear })
-    by (Refused r) clear = refl
+    by (Ok tt) clear = run_off n (uncounted p) g (in_main j) (record { unframed = h.unframed; clear = clear })
+    by (Err r) clear = refl
 off p g (reads va n) j h = refl
 off p g (writes va bytes) j h = write_off p g va bytes j h.unframed
 off p g (views x) j h = refl

@@ -3,16 +3,15 @@
 use mathlib.Core.Path.{◌≡◌, refl, sym, ap, ◌∙◌}
 use Prim.Native.Nat.{ℕ, ◌<◌, ◌≤◌}
 use native.Mathlib.Omega.{arith}
+use Rattle.std.specs.Prelude.{Ok, Err}
 use Rattle.model.specs.State.{State}
-use Rattle.model.specs.Answers.{stop_number, stop_detail}
+use Rattle.model.specs.Answers.{stop_number, stop_detail, Verdict}
 use Rattle.model.specs.Run.{Course, ended, run, uncounted, instruction}
 use Rattle.model.specs.Flat.{Flat, flat, flat_instruction}
 use Rattle.model.specs.Calls.{run_verdict, reported, run_by, run_call}
 use Rattle.model.specs.Series.{runs, after}
 use Rattle.model.specs.declared.Stop.{Stop}
 use Rattle.model.specs.declared.Stop.TheVariants.{Limit, Trap, IllegalMemory, Misaligned, IllegalInstruction}
-use Rattle.model.specs.declared.Verdict.{Verdict}
-use Rattle.model.specs.declared.Verdict.TheVariants.{Granted, Refused}
 use Rattle.laws.specs.Good.{Good}
 use Rattle.laws.specs.Mapped.{map_course}
 use Rattle.laws.specs.Demand2.{flat_of}
@@ -49,12 +48,12 @@ module _ (p : State) (g : Good p) (n : ℕ) where
   few_loads = by (run_verdict p n)
     where
       by : (v : Verdict) → FewLoads (run_by v p n).numbers
-      by Granted = record {
+      by (Ok tt) = record {
         most = omega (arith, (run_loads n (uncounted p) g).most);
         limit = λ e. omega (arith, (run_loads n (uncounted p) g).limit (stop_zero _ e));
         copied = omega (arith, run_copied_few n (uncounted p));
       }
-      by (Refused r) = record { most = omega arith; limit = λ e. omega arith; copied = omega arith }
+      by (Err r) = record { most = omega arith; limit = λ e. omega arith; copied = omega arith }
 
   -- a run that such a stop ended was granted
   within : Halting (run_call p n) → n ≤ 1000000
@@ -62,8 +61,8 @@ module _ (p : State) (g : Good p) (n : ℕ) where
   within = by (run_verdict p n) refl
     where
       by : (v : Verdict) → run_verdict p n ≡ v → Halting (run_by v p n) → n ≤ 1000000
-      by Granted q h = run_limit p n q
-      by (Refused r) q h = absurd (omega (arith, h))
+      by (Ok tt) q h = run_limit p n q
+      by (Err r) q h = absurd (omega (arith, h))
 
   pub halts : Halting (run_call p n) → Halts (flat p) (run_call p n)
   unfolding after

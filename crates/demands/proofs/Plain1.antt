@@ -5,12 +5,11 @@ use mathlib.Core.List.{List, [], ◌∷◌}
 use Prim.Native.Nat.{ℕ}
 use native.Mathlib.Omega.{arith}
 use lib.ListN.{length}
-use Rattle.model.specs.Answers.{verdict_numbers}
+use Rattle.model.specs.Answers.{verdict_numbers, Verdict}
 use Rattle.model.specs.Calls.{reply_verdict}
 use Rattle.model.specs.Image.{ptl_of}
 use Rattle.model.specs.declared.VirtualPage.{VirtualPage}
 use Rattle.model.specs.declared.Refusal.TheVariants.{Rights, Room}
-use Rattle.model.specs.declared.Verdict.{Verdict}
 use Rattle.plainmodel.specs.State.{PlainState}
 use Rattle.plainmodel.specs.Calls.{fits, sound, plain_verdict, run_verdict, run_by, run_call, permitted, host_verdict, read_by, read_call, write_by, write_call, viewable, view_verdict, view_by, view_call, reply_by, reply_call}
 use Rattle.plainmodel.specs.Load.{room, load_verdict, load_by, load_call}

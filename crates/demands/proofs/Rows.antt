@@ -5,12 +5,11 @@ use mathlib.Core.List.{List, [], ◌∷◌}
 use Prim.Native.Nat.{ℕ, ◌<◌}
 use native.Mathlib.Omega.{arith}
 use lib.Dec.{leb}
-use Rattle.model.specs.Answers.{verdict_numbers}
+use Rattle.std.specs.Prelude.{Ok}
+use Rattle.model.specs.Answers.{verdict_numbers, Verdict}
 use Rattle.model.specs.Calls.{unless, reply_verdict}
 use Rattle.model.specs.Image.{known, well_formed, image_verdict}
 use Rattle.model.specs.declared.Refusal.TheVariants.{Bound, Unsound, Rights, TooMuch, Edition, Format}
-use Rattle.model.specs.declared.Verdict.{Verdict}
-use Rattle.model.specs.declared.Verdict.TheVariants.{Granted}
 use Rattle.laws.specs.Formed.{Formed}
 use Rattle.demands.specs.Refusals.{Row, ◌when◌, ◌unless◌}
 use Rattle.demands.specs.Conditions.{RunTooLong, TransferTooLong, Register, UnknownImage}
@@ -26,14 +25,14 @@ machine_first a b fits sound v own s t f =
     first_unless a Bound _ (◌unless◌ 1 fits) (◌unless◌ 2 sound ∷ own) refl s
     (λ q. first_unless b Unsound v (◌unless◌ 2 sound) own refl (t q) (λ r. f))
 
-pub run_first : (n : ℕ) → First (verdict_numbers ((unless) (leb n 1000000) TooMuch Granted)).refused (4 when RunTooLong n ∷ [])
+pub run_first : (n : ℕ) → First (verdict_numbers ((unless) (leb n 1000000) TooMuch (Ok tt))).refused (4 when RunTooLong n ∷ [])
 run_first n =
     last_unless (leb n 1000000) TooMuch (4 when RunTooLong n) refl
     (too_long_told 1000000 n (RunTooLong n) (λ h. omega (arith, h)) (λ h. omega (arith, h)))
 
 -- a transfer of n bytes, some of which may be denied
 pub transfer_first : (permitted : Bool) (n : ℕ) (denied : Type 0) → Tells permitted (3 when denied)
-    → First (verdict_numbers ((unless) (leb n 256) TooMuch ((unless) permitted Rights Granted))).refused
+    → First (verdict_numbers ((unless) (leb n 256) TooMuch ((unless) permitted Rights (Ok tt)))).refused
     (4 when TransferTooLong n ∷ 3 when denied ∷ [])
 transfer_first permitted n denied t =
     first_unless (leb n 256) TooMuch _ (4 when TransferTooLong n) (3 when denied ∷ []) refl

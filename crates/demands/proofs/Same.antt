@@ -8,6 +8,8 @@ use Prim.Native.Nat.{ℕ, ◌≤◌}
 use native.Mathlib.Omega.{arith}
 use native.Mathlib.Decide.{ℕ_discrete}
 use lib.ListN.{length}
+use Rattle.std.specs.Prelude.{Ok, Err}
+use Rattle.model.specs.Answers.{Verdict}
 use Rattle.model.specs.State.{Memory, State}
 use Rattle.model.specs.Run.{uncounted, run, instruction}
 use Rattle.model.specs.Flat.{Flat, flat}
@@ -15,8 +17,6 @@ use Rattle.model.specs.Calls as paged
 use Rattle.model.specs.Image as paged-load
 use Rattle.model.specs.Series.{Call, runs, reads, writes, views, replies, after, SeriesStep, calls, spares, spared, after_step, after_all}
 use Rattle.model.specs.declared.Shape.{Shape}
-use Rattle.model.specs.declared.Verdict.{Verdict}
-use Rattle.model.specs.declared.Verdict.TheVariants.{Granted, Refused}
 use Rattle.laws.specs.Good.{Good}
 use Rattle.laws.proofs.Run.{run_right}
 use Rattle.laws.proofs.Spare.{spared_machine, spared_flat}
@@ -48,10 +48,10 @@ module _ (p : State) (g : Good p) where
   run_left n = ap (λ v. (plain.run_by v q n).state) (sym (run_verdict_lem p g n)) ∙ by (paged.run_verdict p n)
     where
       by : (v : Verdict) → (plain.run_by v q n).state ≡ plain_of (paged.run_by v p n).state
-      by Granted =
+      by (Ok tt) =
           let r = run_right n (uncounted p) g in
           stands_for (run instruction n (uncounted p)).left.state r.size.shape _ (ap (λ c. c.left) r.same)
-      by (Refused r) = refl
+      by (Err r) = refl
 
   write_left : (va : ℕ) (from : List ℕ)
       → plain_state q.plain (plain.write_call q va from).bytes q.rights ≡ plain_of (paged.write_call p va from).state
@@ -62,10 +62,10 @@ module _ (p : State) (g : Good p) where
       wrote v = plain_state q.plain (plain.write_by v q va from).bytes q.rights
 
       by : (v : Verdict) → paged.host_verdict true p va (length from) ≡ v → wrote v ≡ plain_of (paged.write_call p va from).state
-      by Granted e =
+      by (Ok tt) e =
           stands_for (paged.write_call p va from).state (ap (λ m. m.shape) (write_machine p g va from)) _
           (write_call_lem p g va from (ap (λ v. (paged.write_by v p va from).verdict.refused) e))
-      by (Refused r) e = ap (λ v. plain_of (paged.write_by v p va from).state) (sym e)
+      by (Err r) e = ap (λ v. plain_of (paged.write_by v p va from).state) (sym e)
 
   reply_left : (i v : ℕ)
       → plain_state (plain.reply_call q.plain i v).plain q.bytes q.rights
@@ -76,8 +76,8 @@ module _ (p : State) (g : Good p) where
       by : (w : Verdict)
           → plain_state (plain.reply_by w q.plain i v).plain q.bytes q.rights
           ≡ plain_of (record { machine = (paged.reply_by w p.machine i v).machine; memory = p.memory })
-      by Granted = refl
-      by (Refused r) = refl
+      by (Ok tt) = refl
+      by (Err r) = refl
 
   call_left : (c : Call) → plain-series.after q c ≡ plain_of (after p c)
   unfolding after plain-series.after
@@ -120,8 +120,8 @@ load_left l bytes rights = by (plain-load.load_verdict l bytes rights)
   where
     by : (v : Verdict) → (plain-load.load_by v l bytes rights).verdict.refused ≡ 0
         → (plain-load.load_by v l bytes rights).state ≡ plain-load.fresh l
-    by Granted e = refl
-    by (Refused r) e = refused r e
+    by (Ok tt) e = refl
+    by (Err r) e = refused r e
 
 fresh_stands : (l : List ℕ) (m : Memory) → (paged-load.load_call l m).verdict.refused ≡ 0
     → plain_of (paged-load.load_call l m).state ≡ plain-load.fresh l

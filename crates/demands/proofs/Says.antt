@@ -4,14 +4,14 @@ use mathlib.Core.Bool.{true, false}
 use mathlib.Core.List.{List, []}
 use Prim.Native.Nat.{ℕ}
 use lib.ListN.{length, replicate}
+use Rattle.std.specs.Prelude.{Ok, Err}
+use Rattle.model.specs.Answers.{Verdict}
 use Rattle.model.specs.State.{State}
 use Rattle.model.specs.Run.{Course, uncounted}
 use Rattle.model.specs.Flat.{Flat, flat}
 use Rattle.model.specs.Calls as paged
 use Rattle.model.specs.Series.{Call, runs, reads, writes, views, replies, SeriesStep, calls, spares}
 use Rattle.model.specs.declared.VirtualPage.{VirtualPage}
-use Rattle.model.specs.declared.Verdict.{Verdict}
-use Rattle.model.specs.declared.Verdict.TheVariants.{Granted, Refused}
 use Rattle.laws.specs.Good.{Good}
 use Rattle.laws.proofs.Run.{run_right}
 use Rattle.laws.proofs.Host.{read_flat, view_flat}
@@ -43,8 +43,8 @@ module _ (p : State) (g : Good p) where
   run_says n = by (paged.run_verdict p n) ∙ ap (λ v. plain_ran (plain.run_by v q n)) (run_verdict_lem p g n)
     where
       by : (v : Verdict) → paged_ran (paged.run_by v p n) ≡ plain_ran (plain.run_by v q n)
-      by Granted = ap (λ (c : Course Flat). plain_ran (plain.reported q c)) (run_right n (uncounted p) g).same
-      by (Refused r) = refl
+      by (Ok tt) = ap (λ (c : Course Flat). plain_ran (plain.reported q c)) (run_right n (uncounted p) g).same
+      by (Err r) = refl
 
   read_says : (va : ℕ) (buffer : List ℕ) → paged_read (paged.read_call p va buffer) ≡ plain_read (plain.read_call q va buffer)
   unfolding paged.read_call plain.read_call flat
@@ -54,8 +54,8 @@ module _ (p : State) (g : Good p) where
     where
       by : (v : Verdict) → paged.host_verdict false p va (length buffer) ≡ v
           → paged_read (paged.read_by v p va buffer) ≡ plain_read (plain.read_by v q va buffer)
-      by Granted e = ap (said 0) (read_flat p.machine.shape p.memory va (length buffer) (host_inside false p va (length buffer) e))
-      by (Refused r) e = refl
+      by (Ok tt) e = ap (said 0) (read_flat p.machine.shape p.memory va (length buffer) (host_inside false p va (length buffer) e))
+      by (Err r) e = refl
 
   write_says : (va : ℕ) (from : List ℕ) → (paged.write_call p va from).verdict.refused ≡ (plain.write_call q va from).verdict.refused
   unfolding paged.write_call plain.write_call
@@ -64,25 +64,25 @@ module _ (p : State) (g : Good p) where
       ∙ ap (λ v. (plain.write_by v q va from).verdict.refused) (host_verdict_lem p g true va (length from))
     where
       by : (v : Verdict) → (paged.write_by v p va from).verdict.refused ≡ (plain.write_by v q va from).verdict.refused
-      by Granted = refl
-      by (Refused r) = refl
+      by (Ok tt) = refl
+      by (Err r) = refl
 
   view_says : (x : VirtualPage) → paged_view (paged.view_call p x) ≡ plain_view (plain.view_call q x)
   unfolding paged.view_call plain.view_call flat
   view_says x = by (paged.view_verdict p x) refl ∙ ap (λ v. plain_view (plain.view_by v q x)) (view_verdict_lem p g x)
     where
       by : (v : Verdict) → paged.view_verdict p x ≡ v → paged_view (paged.view_by v p x) ≡ plain_view (plain.view_by v q x)
-      by Granted e =
+      by (Ok tt) e =
           ap (said 0) (view_flat p.machine.shape p.machine.book p.memory g.fit g.whole g.seated x (view_inside p x e))
-      by (Refused r) e = refl
+      by (Err r) e = refl
 
   reply_says : (i v : ℕ) → (paged.reply_call p.machine i v).verdict.refused ≡ (plain.reply_call q.plain i v).verdict.refused
   unfolding paged.reply_call plain.reply_call
   reply_says i v = by (paged.reply_verdict i)
     where
       by : (w : Verdict) → (paged.reply_by w p.machine i v).verdict.refused ≡ (plain.reply_by w q.plain i v).verdict.refused
-      by Granted = refl
-      by (Refused r) = refl
+      by (Ok tt) = refl
+      by (Err r) = refl
 
   call_says : (c : Call) → paged_call p c ≡ plain_call q c
   unfolding paged_call plain_call

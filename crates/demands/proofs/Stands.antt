@@ -8,6 +8,7 @@ use native.Mathlib.Omega.{arith}
 use lib.Dec.{leb, ltb}
 use lib.ListN.{length, get_or}
 use borrow.Author.Tests.{ltb-true}
+use Rattle.std.specs.Prelude.{Ok}
 use Rattle.model.specs.Choice.{every_below}
 use Rattle.model.specs.Pages.{virtual, page_of}
 use Rattle.model.specs.Table.{entry}
@@ -18,7 +19,6 @@ use Rattle.model.specs.Calls as paged
 use Rattle.model.specs.declared.Shape.{Shape}
 use Rattle.model.specs.declared.VirtualPage.{VirtualPage}
 use Rattle.model.specs.declared.Refusal.TheVariants.{Rights, TooMuch}
-use Rattle.model.specs.declared.Verdict.TheVariants.{Granted}
 use Rattle.laws.specs.Good.{Good}
 use Rattle.laws.proofs.Choice.{length-below, get_or-below}
 use Rattle.laws.proofs.Entries.{grants_rights}
@@ -87,11 +87,11 @@ module _ (p : State) (g : Good p) where
   unfolding paged.host_verdict plain.host_verdict flat
   host_verdict_lem w va n =
       machine_onward p g _
-      ∙ ap (λ b. paged.unless (leb n 256) TooMuch (paged.unless b Rights Granted)) (same_permitted p.machine.shape p.memory.main w va n)
+      ∙ ap (λ b. paged.unless (leb n 256) TooMuch (paged.unless b Rights (Ok tt))) (same_permitted p.machine.shape p.memory.main w va n)
       ∙ sym (plain_onward (plain_of p) stands_good _)
 
   pub view_verdict_lem : (x : VirtualPage) → paged.view_verdict p x ≡ plain.view_verdict (plain_of p) x
   unfolding paged.view_verdict plain.view_verdict paged.viewable plain.viewable flat
   view_verdict_lem x =
-      machine_onward p g _ ∙ ap (λ b. paged.unless b Rights Granted) (same_right p.machine.shape p.memory.main false x)
+      machine_onward p g _ ∙ ap (λ b. paged.unless b Rights (Ok tt)) (same_right p.machine.shape p.memory.main false x)
       ∙ sym (plain_onward (plain_of p) stands_good _)

@@ -6,6 +6,8 @@ use mathlib.Core.List.{List, [], ◌∷◌, ◌++◌, append-nil}
 use Prim.Native.Nat.{ℕ, suc, ◌+◌}
 use native.Mathlib.Omega.{arith}
 use lib.ListN.{length, length-append}
+use Rattle.std.specs.Prelude.{Ok, Err}
+use Rattle.model.specs.Answers.{Verdict}
 use Rattle.model.specs.State.{State}
 use Rattle.model.specs.Run.{Step, goes, stops, Counted, uncounted, instruction, run}
 use Rattle.model.specs.Order.{Demand, demand_of, onwards, order_of}
@@ -14,8 +16,6 @@ use Rattle.model.specs.Series.{Call, runs, reads, writes, views, replies, after,
 use Rattle.model.specs.declared.Shape.{Shape}
 use Rattle.model.specs.declared.FrameBook.{FrameBook}
 use Rattle.model.specs.declared.VirtualPage.{VirtualPage}
-use Rattle.model.specs.declared.Verdict.{Verdict}
-use Rattle.model.specs.declared.Verdict.TheVariants.{Granted, Refused}
 use Rattle.laws.specs.Good.{Good}
 use Rattle.laws.specs.Mapped.{leaves, map_step}
 use Rattle.laws.specs.Demand2.{flat_of}
@@ -117,22 +117,22 @@ module _ (o : Order) (kept : Keeps o) where
       by : (v : Verdict)
           → Handled (uncounted p) (having (run_by v p n).state (run_by v p n).numbers.loads) (names_granted v (run_brings n (uncounted p)))
           (at_large o p (order_by v p n))
-      by Granted =
+      by (Ok tt) =
           let t = run_handled n (uncounted p) g in
           record { counted = t.counted; many = t.many; left = t.left; steps = t.steps }
-      by (Refused r) = still p p refl
+      by (Err r) = still p p refl
   call_handled p (reads va n) g = still p p refl
   call_handled p (writes va bytes) g = by (host_verdict true p va (length bytes))
     where
       by : (v : Verdict) → Handled (uncounted p) (having (write_by v p va bytes).state 0) [] (at_large o p [])
-      by Granted = still p _ refl
-      by (Refused r) = still p p refl
+      by (Ok tt) = still p _ refl
+      by (Err r) = still p p refl
   call_handled p (views x) g = still p p refl
   call_handled p (replies i v) g = by (reply_verdict i)
     where
       by : (w : Verdict) → Handled (uncounted p) (having (record { machine = (reply_by w p.machine i v).machine; memory = p.memory }) 0) [] (at_large o p [])
-      by Granted = still p _ refl
-      by (Refused r) = still p _ refl
+      by (Ok tt) = still p _ refl
+      by (Err r) = still p _ refl
 
   pub step_handled : (p : State) (s : SeriesStep) → Good p
       → Handled (uncounted p) (having (after_step p s) (step_loads p s)) (step_brings p s) (at_large o p (step_order p s))

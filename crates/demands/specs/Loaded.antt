@@ -2,6 +2,7 @@
 -- start and start+4 in DPC and PC', 0 in every register. It has the shape that loading makes, its frames are all free, the lent
 -- memories keep their lengths, and the next call refuses it neither by 1 nor by 2. The theorem is `loaded` of proofs/Loaded.
 use Rattle.std.specs.Prelude.{◌≡◌, true, List, ℕ, length, replicate}
+use Rattle.model.specs.Answers.{Verdict}
 use Rattle.model.specs.Words.{plus}
 use Rattle.model.specs.Frames.{empty_book}
 use Rattle.model.specs.State.{Memory, State}
@@ -9,7 +10,6 @@ use Rattle.model.specs.Sound.{fits, sound}
 use Rattle.model.specs.Flat.{Flat, flat}
 use Rattle.model.specs.Calls.{machine_verdict}
 use Rattle.model.specs.Image.{start_of, frames_of, rights_of, pages_of, meant, fresh_shape}
-use Rattle.model.specs.declared.Verdict.{Verdict}
 use Rattle.laws.specs.Good.{Good}
 
 -- the flat machine of an image

@@ -5,7 +5,7 @@ ghost use Rattle.model.specs.Instruction as model;
 ghost use Rattle.model.specs.declared.Plan.TheVariants.{LoadByte, LoadHalf, LoadWord, StoreByte, StoreHalf, StoreWord};
 
 use crate::functions;
-use crate::functions::Value;
+use alu::Relation;
 use model::Plan;
 
 // The fields RS1, RD (which is RS2 under opcode 0) and imm.
@@ -24,7 +24,7 @@ fn rd(w: u32) -> u32
 fn imm(w: u32) -> u32
     ensures { result ≡ model.imm w }
 {
-    alu::sext16(w % 65536)
+    alu::sext(16, w % 65536)
 }
 
 // The values of RS1 and of RD.
@@ -46,21 +46,21 @@ fn second(g: &[u32; 32], w: u32) -> u32
 pub fn onward(next: u32) -> u32
     ensures { result ≡ model.onward next }
 {
-    std::num::wrapping_add_u32(next, 4)
+    next.wrapping_add(4)
 }
 
 // "Address of a load or store: RS1+imm."
 fn address(g: &[u32; 32], w: u32) -> u32
     ensures { result ≡ plus (model.reg g.now (model.rs1 w)) (model.imm w) }
 {
-    std::num::wrapping_add_u32(first(g, w), imm(w))
+    first(g, w).wrapping_add(imm(w))
 }
 
 // "target PC'+imm", of j and jal.
 fn far(next: u32, w: u32) -> u32
     ensures { result ≡ plus next (model.imm26 w) }
 {
-    std::num::wrapping_add_u32(next, alu::sext26(w % 67108864))
+    next.wrapping_add(alu::sext(26, w % 67108864))
 }
 
 // A value to a register, and on to the next instruction.
@@ -80,7 +80,7 @@ fn jump(target: u32) -> Plan
     Plan::Set {
         rd: 0,
         value: 0,
-        target: target,
+        target,
     }
 }
 
@@ -91,7 +91,7 @@ fn link(next: u32, target: u32) -> Plan
     Plan::Set {
         rd: 31,
         value: onward(next),
-        target: target,
+        target,
     }
 }
 
@@ -100,19 +100,20 @@ fn branch(next: u32, taken: bool, by: u32) -> Plan
     ensures { result ≡ model.jump (if taken then plus next by else model.onward next) }
 {
     let target = if taken {
-        std::num::wrapping_add_u32(next, by)
+        next.wrapping_add(by)
     } else {
         onward(next)
     };
     jump(target)
 }
 
-// A load and a store of each width: "Address of a load or store: RS1+imm."
+// A load and a store of each width: "Address of a load or store: RS1+imm." Each is a variant of its own, as the model's rows name them
+// (model/specs/Instruction): one generic maker would match on the width again.
 fn load_byte(g: &[u32; 32], w: u32, signed: bool) -> Plan
     ensures { result ≡ LoadByte signed (model.rd w) (plus (model.reg g.now (model.rs1 w)) (model.imm w)) }
 {
     Plan::LoadByte {
-        signed: signed,
+        signed,
         rd: rd(w),
         va: address(g, w),
     }
@@ -122,7 +123,7 @@ fn load_half(g: &[u32; 32], w: u32, signed: bool) -> Plan
     ensures { result ≡ LoadHalf signed (model.rd w) (plus (model.reg g.now (model.rs1 w)) (model.imm w)) }
 {
     Plan::LoadHalf {
-        signed: signed,
+        signed,
         rd: rd(w),
         va: address(g, w),
     }
@@ -170,12 +171,13 @@ fn function(g: &[u32; 32], next: u32, w: u32) -> Plan
 {
     let v = functions::function(w, first(g, w), second(g, w));
     match v {
-        Value::Is(x) => set(next, w / 2048 % 32, x),
-        Value::Unknown => Plan::Unknown,
+        Some(x) => set(next, w / 2048 % 32, x),
+        None => Plan::Unknown,
     }
 }
 
 // A word of another opcode.
+#[tactic(auto, using(alu::proofs::Words::if_not), unfolding(model::specs::Instruction::immediate))]
 fn immediate(g: &[u32; 32], next: u32, w: u32) -> Plan
     ensures { result ≡ model.immediate next w (model.reg g.now (model.rs1 w)) (model.reg g.now (model.rd w)) (model.imm w) }
 {
@@ -192,14 +194,46 @@ fn immediate(g: &[u32; 32], next: u32, w: u32) -> Plan
         15 => set(next, rd(w), alu::lhg(w)),
         22 => jump(first(g, w)),
         23 => link(next, first(g, w)),
-        24 => set(next, rd(w), 0),
-        25 => set(next, rd(w), alu::compare(1, first(g, w), imm(w))),
-        26 => set(next, rd(w), alu::compare(2, first(g, w), imm(w))),
-        27 => set(next, rd(w), alu::compare(3, first(g, w), imm(w))),
-        28 => set(next, rd(w), alu::compare(4, first(g, w), imm(w))),
-        29 => set(next, rd(w), alu::compare(5, first(g, w), imm(w))),
-        30 => set(next, rd(w), alu::compare(6, first(g, w), imm(w))),
-        31 => set(next, rd(w), 1),
+        24 => set(
+            next,
+            rd(w),
+            alu::compare(Relation::Never, first(g, w), imm(w)),
+        ),
+        25 => set(
+            next,
+            rd(w),
+            alu::compare(Relation::Greater, first(g, w), imm(w)),
+        ),
+        26 => set(
+            next,
+            rd(w),
+            alu::compare(Relation::Equal, first(g, w), imm(w)),
+        ),
+        27 => set(
+            next,
+            rd(w),
+            alu::compare(Relation::GreaterEqual, first(g, w), imm(w)),
+        ),
+        28 => set(
+            next,
+            rd(w),
+            alu::compare(Relation::Less, first(g, w), imm(w)),
+        ),
+        29 => set(
+            next,
+            rd(w),
+            alu::compare(Relation::NotEqual, first(g, w), imm(w)),
+        ),
+        30 => set(
+            next,
+            rd(w),
+            alu::compare(Relation::LessEqual, first(g, w), imm(w)),
+        ),
+        31 => set(
+            next,
+            rd(w),
+            alu::compare(Relation::Always, first(g, w), imm(w)),
+        ),
         32 => load_byte(g, w, true),
         33 => load_half(g, w, true),
         35 => load_word(g, w),
@@ -215,6 +249,7 @@ fn immediate(g: &[u32; 32], next: u32, w: u32) -> Plan
 
 // What the word w asks for, with the registers as they are and `next` in PC'. Opcode 0 is asked apart: a second table reached
 // through the first would be a second indirect jump for half of all instructions.
+#[tactic(auto, unfolding(model::specs::Instruction::plan))]
 pub fn plan(g: &[u32; 32], next: u32, w: u32) -> Plan
     ensures { result ≡ model.plan g.now next w }
 {

@@ -34,27 +34,17 @@ pub(crate) struct Leg {
     pub stored: u64,
 }
 
+// Each of the four ends of `go` is one line by it.
 fn finish(stop: Stop, finished: u32, loads: u32, copied: u32, book: FrameBook, pcs: Pcs) -> Ended
     ensures { result ≡ record { stop = stop; finished = finished; loads = loads; copied = copied; book = book; pcs = pcs } }
 {
     Ended {
-        stop: stop,
-        finished: finished,
-        loads: loads,
-        copied: copied,
-        book: book,
-        pcs: pcs,
-    }
-}
-
-fn pause(outcome: Outcome, left: u32, pcs: Pcs, stored: u64) -> Leg
-    ensures { result ≡ record { outcome = outcome; left = left; pcs = pcs; stored = stored } }
-{
-    Leg {
-        outcome: outcome,
-        left: left,
-        pcs: pcs,
-        stored: stored,
+        stop,
+        finished,
+        loads,
+        copied,
+        book,
+        pcs,
     }
 }
 
@@ -67,7 +57,7 @@ fn marks_behind(s: Shape, marks: u32, stored: u64) -> u32
 }
 
 // At most n instructions, while they are on the code page c and miss no page: the loop that a guest spends its time in. It asks the
-// table for data alone.
+// table for data alone. How many are left is handed back, so no `for` counts them.
 fn walk(g: &mut [u32; 32], p: Pcs, s: Shape, main: &mut [u8], c: CodePage, n: u32) -> Leg
     requires { Safe s main.old × Found s main.old c × ((page_of p.dpc).0 ≡ c.page.0) × (0 < n) }
     ensures { (marks : ℕ) → Walked s (spot g.old p main.old marks) n result g.new main.new }
@@ -86,7 +76,12 @@ fn walk(g: &mut [u32; 32], p: Pcs, s: Shape, main: &mut [u8], c: CodePage, n: u3
                 stored = stored | (1u64 << (i / 4096));
             }
             _ => {
-                return pause(o, left, pcs, stored);
+                return Leg {
+                    outcome: o,
+                    left,
+                    pcs,
+                    stored,
+                };
             }
         }
         left = left - 1;
@@ -94,7 +89,12 @@ fn walk(g: &mut [u32; 32], p: Pcs, s: Shape, main: &mut [u8], c: CodePage, n: u3
             break;
         }
     }
-    pause(Outcome::Done(pcs), left, pcs, stored)
+    Leg {
+        outcome: Outcome::Done(pcs),
+        left,
+        pcs,
+        stored,
+    }
 }
 
 // A leg from p on: along DPC's page, if that can be fetched from.
@@ -104,7 +104,12 @@ fn leg_from(g: &mut [u32; 32], p: Pcs, s: Shape, main: &mut [u8], n: u32) -> Leg
 {
     let c = code::find(s, main, p.dpc);
     if !code::covers(c, p.dpc) {
-        return pause(cpu::unfetched(s, main, p), n, p, 0);
+        return Leg {
+            outcome: cpu::unfetched(s, main, p),
+            left: n,
+            pcs: p,
+            stored: 0,
+        };
     }
     walk(g, p, s, main, c, n)
 }

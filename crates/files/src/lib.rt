@@ -20,7 +20,7 @@ pub fn read_full<R: Read>(reader: &mut R, bytes: &mut [u8]) -> io::Result<usize>
     read_on(reader, bytes, 0)
 }
 
-// The bytes behind the first ones, which are read already: all that are read now.
+// The bytes behind the first ones, which are read already: all that are read now. A turn takes what the reader gives: no `for` counts it.
 pub fn read_on<R: Read>(reader: &mut R, bytes: &mut [u8], first: usize) -> io::Result<usize>
     requires { first ≤ length bytes.old }
     ensures in_bounds { ReadsAtMost result bytes.new }

@@ -8,6 +8,7 @@ use native.Mathlib.Omega.{arith}
 use lib.Dec.{eqb, leb}
 use lib.ListN.{length, get_or}
 use borrow.Author.Tests.{leb-true}
+use Rattle.std.specs.Prelude.{Ok, Err}
 use Rattle.model.specs.declared.Refusal.{Refusal}
 use Rattle.laws.specs.Over.{over}
 use Rattle.laws.proofs.Choice.{chosen}
@@ -16,8 +17,7 @@ use Rattle.notation.specs.Line.{line_of}
 use Rattle.notation.specs.Text.{before, lines, Reading, words, bad, with, judged, read_from, read_text}
 use Rattle.notation.specs.Listing.{listing}
 use Rattle.notation.specs.Calls.{bytes_of, words_of, AssembleOutcome, assemble_by, assemble_call, ListOutcome, list_call}
-use Rattle.notation.specs.declared.Parsed.{Parsed}
-use Rattle.notation.specs.declared.Parsed.TheVariants.{Value, Wrong}
+use Rattle.notation.specs.Answers.{Parsed, wrong}
 use Rattle.grammar.proofs.Line.{line_wrong}
 
 -- ---- a text's lines
@@ -66,10 +66,10 @@ module _ (m n : ℕ) where
   with_placed w (words ws) p = p
   with_placed w (bad r line column) p = p
 
-  judged_placed : (k : ℕ) (p : Parsed) (b : Reading) → k ≤ m → ((r : Refusal) (q : ℕ) → p ≡ Wrong r q → q ≤ n) → Placed m n b
+  judged_placed : (k : ℕ) (p : Parsed) (b : Reading) → k ≤ m → ((r : Refusal) (q : ℕ) → p ≡ Err (wrong r q) → q ≤ n) → Placed m n b
       → Placed m n (judged k p b)
-  judged_placed k (Value w next) b h f g = with_placed w b g
-  judged_placed k (Wrong r q) b h f g = (h, omega (arith, f r q refl))
+  judged_placed k (Ok (w, next)) b h f g = with_placed w b g
+  judged_placed k (Err w) b h f g = (h, omega (arith, f w.refusal w.place refl))
 
   read_placed : (k : ℕ) (ls : List (List ℕ)) → k + length ls ≤ m + 1 → NoneLonger n ls → Placed m n (read_from k ls)
   unfolding read_from

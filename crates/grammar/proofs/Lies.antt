@@ -7,35 +7,35 @@ use Prim.Native.Nat.{ℕ, zero, suc, ◌+◌, ◌-◌, ◌≤◌, ◌<◌, ◌^�
 use native.Mathlib.Omega.{arith}
 use lib.Dec.{eqb}
 use lib.ListN.{length}
+use Rattle.std.specs.Prelude.{Ok, Err}
 use Rattle.model.specs.declared.Refusal.{Refusal}
 use Rattle.laws.proofs.Choice.{chosen}
 use Rattle.notation.specs.Sums.{byte_at, skipped, and_then, number_at, joined, Goal, term, terms, whole, is_minus, start_of, negated, closed, valued, factor, more, read_by, read_in, size, read_at}
-use Rattle.notation.specs.declared.Parsed.{Parsed}
-use Rattle.notation.specs.declared.Parsed.TheVariants.{Value, Wrong}
+use Rattle.notation.specs.Answers.{Parsed, wrong}
 use Rattle.grammar.proofs.Places.{skip_from, skip_inside, known_inside, OfSum, IsNumber, is_number, IsKept, is_joined}
 
 -- ---- what it is to lie so; a refusal stands within the line if H
 abbrev pub Lies : Type 0 → ℕ → ℕ → Parsed → Type 0
-Lies H at end (Value v n) = (at < n) × (n ≤ end) × (v < 2 ^ 32)
-Lies H at end (Wrong r p) = (H → p ≤ end) × OfSum r
+Lies H at end (Ok (v, n)) = (at < n) × (n ≤ end) × (v < 2 ^ 32)
+Lies H at end (Err w) = (H → w.place ≤ end) × OfSum w.refusal
 
 pub lies_before : {H K : Type 0} (a b end : ℕ) (p : Parsed) → a ≤ b → (H → K) → Lies K b end p → Lies H a end p
-lies_before a b end (Value v n) h k w = (omega arith, w.1, w.2)
-lies_before a b end (Wrong r p) h k w = (λ x. w.0 (k x), w.1)
+lies_before a b end (Ok (v, n)) h k w = (omega arith, w.1, w.2)
+lies_before a b end (Err z) h k w = (λ x. w.0 (k x), w.1)
 
 number_lies : (at end : ℕ) (p : Parsed) → IsNumber at end 2147483647 p → Lies (at ≤ end) at end (valued p)
-number_lies at end (Value v n) w = (w.0, w.1, omega arith)
-number_lies at end (Wrong r p) w = (λ h. omega arith, w.1)
+number_lies at end (Ok (v, n)) w = (w.0, w.1, omega arith)
+number_lies at end (Err x) w = (λ h. omega arith, w.1)
 
 kept_lies : (at n end : ℕ) (p : Parsed) → at < n → n ≤ end → IsKept at n p → Lies (at ≤ end) at end p
-kept_lies at n end (Value v m) h k w = (omega arith, omega arith, w.1)
-kept_lies at n end (Wrong r p) h k w = (λ _. omega arith, w.1)
+kept_lies at n end (Ok (v, m)) h k w = (omega arith, omega arith, w.1)
+kept_lies at n end (Err x) h k w = (λ _. omega arith, w.1)
 
 -- what is known of p gives it at a refusal, and what goes on at a value
 pub then_has : (P Q : Parsed → Type 0) (p : Parsed) {onto : ℕ → ℕ → Parsed} → Q p
-    → ((r : Refusal) (q : ℕ) → Q (Wrong r q) → P (Wrong r q)) → ((v n : ℕ) → Q (Value v n) → P (onto v n)) → P (and_then p onto)
-then_has P Q (Value v n) w f g = g v n w
-then_has P Q (Wrong r q) w f g = f r q w
+    → ((r : Refusal) (q : ℕ) → Q (Err (wrong r q)) → P (Err (wrong r q))) → ((v n : ℕ) → Q (Ok (v, n)) → P (onto v n)) → P (and_then p onto)
+then_has P Q (Ok (v, n)) w f g = g v n w
+then_has P Q (Err x) w f g = f x.refusal x.place w
 
 -- a goal's place, and that its places are within the line
 abbrev pub place_of : Goal → ℕ
@@ -65,7 +65,7 @@ module _ (s : List ℕ) where
       chosen (λ n. n ≤ length s) (is_minus s at)
       (λ t. skip_inside s (at + 1) (omega (arith, known_inside s at 45 (omega arith) t))) (λ _. h)
 
-  closed_lies : (at v n : ℕ) → at < n → n ≤ length s → v < 2 ^ 32 → TermIn at (closed s (Value v n))
+  closed_lies : (at v n : ℕ) → at < n → n ≤ length s → v < 2 ^ 32 → TermIn at (closed s (Ok (v, n)))
   closed_lies at v n h k f =
       chosen (TermIn at) (eqb (byte_at s (skipped s n)) 41)
       (λ t. (omega (arith, skip_from s n), omega (arith, known_inside s (skipped s n) 41 (omega arith) t), f))

@@ -8,6 +8,7 @@ use native.Mathlib.Omega.{arith}
 use lib.Dec.{eqb, leb, ltb}
 use lib.ListN.{length}
 use borrow.Author.Tests.{ltb-true}
+use Rattle.std.specs.Prelude.{Ok, Err}
 use Rattle.model.specs.Choice.{passes}
 use Rattle.model.specs.declared.Refusal.{Refusal}
 use Rattle.model.specs.declared.Refusal.TheVariants.{Mnemonic, Operand, Overflow}
@@ -19,8 +20,7 @@ use Rattle.notation.specs.Sums.{is_blank, byte_at, skipped, number_at, sum_at}
 use Rattle.notation.specs.Line.{below, fitted, operand_at, read_piece, ended, read_pieces, name_at, is_named, instruction_at, plain_at, line_at, line_of}
 use Rattle.notation.specs.declared.Piece.{Piece}
 use Rattle.notation.specs.declared.Piece.TheVariants.{Mark, Field}
-use Rattle.notation.specs.declared.Parsed.{Parsed}
-use Rattle.notation.specs.declared.Parsed.TheVariants.{Value, Wrong}
+use Rattle.notation.specs.Answers.{Parsed, wrong}
 use Rattle.grammar.proofs.Places.{skip_from, skip_inside, known_inside, OfSum, IsNumber, is_number}
 use Rattle.grammar.proofs.Lies.{Lies, then_has}
 use Rattle.grammar.proofs.Sums.{sum_lies}
@@ -49,16 +49,16 @@ first_has P good test made other (r ∷ rs) g f o =
 -- ---- what is read in a line
 -- what a piece leaves, from `at` on
 abbrev PieceIn : ℕ → ℕ → Parsed → Type 0
-PieceIn at end (Value v n) = (at ≤ n) × (n ≤ end)
-PieceIn at end (Wrong r p) = (p ≤ end) × OfSum r
+PieceIn at end (Ok (v, n)) = (at ≤ n) × (n ≤ end)
+PieceIn at end (Err w) = (w.place ≤ end) × OfSum w.refusal
 
 -- what refuses a line
 abbrev OfLine : Refusal → Type 0
 OfLine r = (r ≡ Mnemonic) ⊎ (r ≡ Operand) ⊎ (r ≡ Overflow)
 
 abbrev LineIn : ℕ → Parsed → Type 0
-LineIn end (Value v n) = Unit
-LineIn end (Wrong r p) = (p ≤ end) × OfLine r
+LineIn end (Ok (v, n)) = Unit
+LineIn end (Err w) = (w.place ≤ end) × OfLine w.refusal
 
 module _ (s : List ℕ) where
   abbrev end : ℕ
@@ -103,7 +103,7 @@ module _ (s : List ℕ) where
   unfolding instruction_at
   instruction_in at h =
       let n = at + length (name_at s at) in
-      first_has (LineIn end) are_seen (is_named (name_at s at)) (λ r. read_pieces s r.pieces r.base n) (Wrong Mnemonic at) rows rows_seen
+      first_has (LineIn end) are_seen (is_named (name_at s at)) (λ r. read_pieces s r.pieces r.base n) (Err (wrong Mnemonic at)) rows rows_seen
       (λ r t. pieces_in r.pieces r.base n t (front_inside (λ c. not (is_blank c)) s at h))
       (h, inl refl)
 
@@ -119,13 +119,13 @@ module _ (s : List ℕ) where
       let h : at ≤ end = skip_inside s 0 (omega arith) in
       chosen (LineIn end) (is_digit (byte_at s at)) (λ _. plain_in at h) (λ _. instruction_in at h)
 
-pub piece_value : (s : List ℕ) (p : Piece) (w n v m : ℕ) → n ≤ length s → is_seen p ≡ true → read_piece s p w n ≡ Value v m
+pub piece_value : (s : List ℕ) (p : Piece) (w n v m : ℕ) → n ≤ length s → is_seen p ≡ true → read_piece s p w n ≡ Ok (v, m)
     → (n ≤ m) × (m ≤ length s)
 piece_value s p w n v m h t e = subst (PieceIn n (length s)) e (piece_in s p w n h t)
 
 -- a column is one of 1 to the line's length and one more
-pub line_wrong : (s : List ℕ) (r : Refusal) (p : ℕ) → line_of s ≡ Wrong r p → p ≤ length s
+pub line_wrong : (s : List ℕ) (r : Refusal) (p : ℕ) → line_of s ≡ Err (wrong r p) → p ≤ length s
 line_wrong s r p e = (subst (LineIn (length s)) e (line_in s)).0
 
-pub line_refusal : (s : List ℕ) (r : Refusal) (p : ℕ) → line_of s ≡ Wrong r p → (r ≡ Mnemonic) ⊎ (r ≡ Operand) ⊎ (r ≡ Overflow)
+pub line_refusal : (s : List ℕ) (r : Refusal) (p : ℕ) → line_of s ≡ Err (wrong r p) → (r ≡ Mnemonic) ⊎ (r ≡ Operand) ⊎ (r ≡ Overflow)
 line_refusal s r p e = (subst (LineIn (length s)) e (line_in s)).1

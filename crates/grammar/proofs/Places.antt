@@ -8,7 +8,7 @@ use native.Mathlib.Omega.{arith}
 use lib.Dec.{eqb, leb, ltb}
 use lib.ListN.{length, drop}
 use borrow.Author.Tests.{eqb-true, leb-true, ltb-true, lt-ltb}
-use Rattle.std.specs.Prelude.{if◌then◌else◌}
+use Rattle.std.specs.Prelude.{if◌then◌else◌, Ok, Err}
 use Rattle.model.specs.declared.Refusal.{Refusal}
 use Rattle.model.specs.declared.Refusal.TheVariants.{Operand, Overflow}
 use Rattle.laws.proofs.Choice.{and_left, and_right, chosen}
@@ -17,8 +17,7 @@ use Rattle.text.specs.Reading.{front, is_digit, decimal, number_of}
 use Rattle.text.proofs.Fronts.{front_more, front_stop, front_inside, inside}
 use Rattle.text.proofs.Numbers.{digit_inside}
 use Rattle.notation.specs.Sums.{is_blank, byte_at, skipped, numbered, number_at, kept, joined}
-use Rattle.notation.specs.declared.Parsed.{Parsed}
-use Rattle.notation.specs.declared.Parsed.TheVariants.{Value, Wrong}
+use Rattle.notation.specs.Answers.{Parsed, wrong}
 
 -- ---- blanks, and bytes that are no 0
 pub blank_inside : (s : List ℕ) (i : ℕ) → is_blank (byte_at s i) ≡ true → i < length s
@@ -54,8 +53,8 @@ OfSum r = (r ≡ Operand) ⊎ (r ≡ Overflow)
 
 -- ---- a number
 abbrev pub IsNumber : ℕ → ℕ → ℕ → Parsed → Type 0
-IsNumber at end most (Value v n) = (at < n) × (n ≤ end) × (v ≤ most)
-IsNumber at end most (Wrong r p) = (p ≡ at) × OfSum r
+IsNumber at end most (Ok (v, n)) = (at < n) × (n ≤ end) × (v ≤ most)
+IsNumber at end most (Err w) = (w.place ≡ at) × OfSum w.refusal
 
 pub is_number : (s : List ℕ) (at most : ℕ) → IsNumber at (length s) most (number_at s at most)
 unfolding number_at reading.number_at number_of
@@ -71,16 +70,16 @@ is_number s at most =
     (λ _. (refl, inr refl)))
     (λ _. (refl, inl refl))
 
-pub number_value : (s : List ℕ) (at most v n : ℕ) → number_at s at most ≡ Value v n → (at < n) × (n ≤ length s) × (v ≤ most)
+pub number_value : (s : List ℕ) (at most v n : ℕ) → number_at s at most ≡ Ok (v, n) → (at < n) × (n ≤ length s) × (v ≤ most)
 number_value s at most v n e = subst (IsNumber at (length s) most) e (is_number s at most)
 
-pub number_wrong : (s : List ℕ) (at most : ℕ) (r : Refusal) (p : ℕ) → number_at s at most ≡ Wrong r p → p ≡ at
+pub number_wrong : (s : List ℕ) (at most : ℕ) (r : Refusal) (p : ℕ) → number_at s at most ≡ Err (wrong r p) → p ≡ at
 number_wrong s at most r p e = (subst (IsNumber at (length s) most) e (is_number s at most)).0
 
 -- ---- a sum of two
 abbrev pub IsKept : ℕ → ℕ → Parsed → Type 0
-IsKept at n (Value v m) = (m ≡ n) × (v < 2 ^ 32)
-IsKept at n (Wrong r p) = (p ≡ at) × OfSum r
+IsKept at n (Ok (v, m)) = (m ≡ n) × (v < 2 ^ 32)
+IsKept at n (Err w) = (w.place ≡ at) × OfSum w.refusal
 
 is_kept : (at v n : ℕ) → IsKept at n (kept at v n)
 unfolding kept
@@ -92,8 +91,8 @@ is_kept at v n =
 pub is_joined : (at acc : ℕ) (minus : Bool) (v n : ℕ) → IsKept at n (joined at acc minus v n)
 is_joined at acc minus v n = is_kept at (if minus then acc + 4294967296 - v else acc + v) n
 
-pub joined_value : (at acc : ℕ) (minus : Bool) (v n w m : ℕ) → joined at acc minus v n ≡ Value w m → (m ≡ n) × (w < 2 ^ 32)
+pub joined_value : (at acc : ℕ) (minus : Bool) (v n w m : ℕ) → joined at acc minus v n ≡ Ok (w, m) → (m ≡ n) × (w < 2 ^ 32)
 joined_value at acc minus v n w m e = subst (IsKept at n) e (is_joined at acc minus v n)
 
-pub joined_wrong : (at acc : ℕ) (minus : Bool) (v n : ℕ) (r : Refusal) (p : ℕ) → joined at acc minus v n ≡ Wrong r p → p ≡ at
+pub joined_wrong : (at acc : ℕ) (minus : Bool) (v n : ℕ) (r : Refusal) (p : ℕ) → joined at acc minus v n ≡ Err (wrong r p) → p ≡ at
 joined_wrong at acc minus v n r p e = (subst (IsKept at n) e (is_joined at acc minus v n)).0

@@ -7,11 +7,10 @@ use native.Mathlib.Nat.{not-suc-le-zero, le_trans}
 use native.Mathlib.Omega.{arith}
 use lib.Dec.{eqb}
 use lib.ListN.{length}
-use Rattle.std.specs.Prelude.{if◌then◌else◌}
+use Rattle.std.specs.Prelude.{if◌then◌else◌, Ok, Err}
 use Rattle.model.specs.declared.Refusal.{Refusal}
 use Rattle.notation.specs.Sums.{byte_at, skipped, and_then, joined, Goal, term, terms, whole, is_minus, start_of, negated, closed, factor, more, read_by, read_in, size, read_at, term_at, sum_at}
-use Rattle.notation.specs.declared.Parsed.{Parsed}
-use Rattle.notation.specs.declared.Parsed.TheVariants.{Value, Wrong}
+use Rattle.notation.specs.Answers.{Parsed, wrong}
 pub use Rattle.grammar.proofs.Places.{blank_inside, skip_more, skip_none, skip_from, skip_inside, byte_inside, number_value, number_wrong, joined_value, joined_wrong}
 use Rattle.grammar.proofs.Places.{known_inside, IsKept, is_joined}
 use Rattle.grammar.proofs.Lies.{Lies, lies_before, LiesIn, TermIn, behind_from, start_from, reads_lie, read_lies}
@@ -22,10 +21,10 @@ same_choice : {A : Type 0} (b : Bool) {x y x' y' : A} → (b ≡ true → x ≡ 
 same_choice true f g = f refl
 same_choice false f g = g refl
 
-then_same : (Q : Parsed → Type 0) (p : Parsed) {f g : ℕ → ℕ → Parsed} → Q p → ((v n : ℕ) → Q (Value v n) → f v n ≡ g v n)
+then_same : (Q : Parsed → Type 0) (p : Parsed) {f g : ℕ → ℕ → Parsed} → Q p → ((v n : ℕ) → Q (Ok (v, n)) → f v n ≡ g v n)
     → and_then p f ≡ and_then p g
-then_same Q (Value v n) w e = e v n w
-then_same Q (Wrong r q) w e = refl
+then_same Q (Ok (v, n)) w e = e v n w
+then_same Q (Err x) w e = refl
 
 module _ (s : List ℕ) where
   module _ (f h : Goal → Parsed) where
@@ -93,14 +92,14 @@ unfolding read_by
 terms_is s start at acc minus d = read_is s (terms start at acc minus d)
 
 -- ---- where a reading lies
-pub term_value : (s : List ℕ) (at d v n : ℕ) → term_at s at d ≡ Value v n → (at < n) × (n ≤ length s) × (v < 2 ^ 32)
+pub term_value : (s : List ℕ) (at d v n : ℕ) → term_at s at d ≡ Ok (v, n) → (at < n) × (n ≤ length s) × (v < 2 ^ 32)
 term_value s at d v n e = subst (LiesIn s (term at d)) e (read_lies s (term at d))
 
 pub sum_lies : (s : List ℕ) (at d : ℕ) → Lies (at ≤ length s) at (length s) (sum_at s at d)
 sum_lies s at d = lies_before at at (length s) (sum_at s at d) (omega arith) (λ h. (h, h)) (read_lies s (whole at d))
 
-pub sum_value : (s : List ℕ) (at d v n : ℕ) → sum_at s at d ≡ Value v n → (at < n) × (n ≤ length s) × (v < 2 ^ 32)
+pub sum_value : (s : List ℕ) (at d v n : ℕ) → sum_at s at d ≡ Ok (v, n) → (at < n) × (n ≤ length s) × (v < 2 ^ 32)
 sum_value s at d v n e = subst (Lies (at ≤ length s) at (length s)) e (sum_lies s at d)
 
-pub sum_wrong : (s : List ℕ) (at d : ℕ) (r : Refusal) (p : ℕ) → at ≤ length s → sum_at s at d ≡ Wrong r p → p ≤ length s
+pub sum_wrong : (s : List ℕ) (at d : ℕ) (r : Refusal) (p : ℕ) → at ≤ length s → sum_at s at d ≡ Err (wrong r p) → p ≤ length s
 sum_wrong s at d r p h e = (subst (Lies (at ≤ length s) at (length s)) e (sum_lies s at d)).0 h

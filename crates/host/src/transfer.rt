@@ -31,11 +31,11 @@ fn read_part(s: Shape, main: &[u8], swap: &[u8], va: u32, into: &mut [u8])
     match home::home_of(s, main, va) {
         Home::Main(start) => {
             let end = start + into.len();
-            words::copy(&main[start..end], into);
+            into.copy_from_slice(&main[start..end]);
         }
         Home::Swap(start) => {
             let end = start + into.len();
-            words::copy(&swap[start..end], into);
+            into.copy_from_slice(&swap[start..end]);
         }
     }
 }
@@ -48,16 +48,16 @@ fn write_part(s: Shape, main: &mut [u8], swap: &mut [u8], va: u32, from: &[u8])
     match home::home_of(s, main, va) {
         Home::Main(start) => {
             let end = start + from.len();
-            words::copy(from, &mut main[start..end]);
+            main[start..end].copy_from_slice(from);
         }
         Home::Swap(start) => {
             let end = start + from.len();
-            words::copy(from, &mut swap[start..end]);
+            swap[start..end].copy_from_slice(from);
         }
     }
 }
 
-// "Host read fills a lent buffer".
+// "Host read fills a lent buffer". A turn takes as many bytes as lie in one page, which no `for` counts; and so does a write's.
 pub fn read_bytes(s: Shape, main: &[u8], swap: &[u8], va: u32, into: &mut [u8])
     requires { Reachable s main.now (length swap.now) × InTable s va (length into.old) }
     ensures { into.new ≡ calls.bytes_from s (memory main.now swap.now) va (length into.old) }

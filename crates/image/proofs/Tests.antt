@@ -7,12 +7,12 @@ use native.Mathlib.Omega.{arith}
 use borrow.Author.Tests.{le-leb, lt-leb, eq-eqb, ne_eqb, leb-true, eqb-true, not-true, not-false}
 use lib.Dec.{eqb, leb}
 use lib.ListN.{length, get_or}
+use Rattle.std.specs.Prelude.{Err, Ok}
 use Rattle.model.specs.Choice.{passes, every_below}
 use Rattle.model.specs.Words.{aligned}
 use Rattle.model.specs.Image.{trailer, ptl_of, start_of, frames_of, rights_of, known, frames_right, well_formed, image_verdict}
 use Rattle.model.specs.Parts.{Part}
 use Rattle.model.specs.declared.Refusal.TheVariants.{Edition, Format}
-use Rattle.model.specs.declared.ImageAnswer.TheVariants.{Image, NotImage}
 use Rattle.laws.proofs.Choice.{pass}
 use Rattle.image.specs.Trailer.{trailer_of}
 use Rattle.image.specs.Sections.{rights_by}
@@ -85,20 +85,20 @@ module _ (l : List ℕ) where
 
 -- ---- the answer
 module _ (l : List ℕ) where
-  pub too_short : length l < 24 → NotImage Edition ≡ answer_of l
+  pub too_short : length l < 24 → Err Edition ≡ answer_of l
   unfolding answer_of image_verdict known
   too_short h = simp (lt-leb 24 (length l) h)
 
   module _ (h : 24 ≤ length l) (t : Trailer) (ht : t ≡ trailer_of l) where
-    pub edition_wrong : (t.edition ≡ 1 → ⊥) → NotImage Edition ≡ answer_of l
+    pub edition_wrong : (t.edition ≡ 1 → ⊥) → Err Edition ≡ answer_of l
     unfolding answer_of image_verdict known
     edition_wrong k = simp (le-leb 24 (length l) h, ne_eqb (trailer l 5) 1 (rw ht at k))
 
     module _ (k : t.edition ≡ 1) (w : Bool) (hw : w ≡ well_formed l) where
-      pub format_wrong : not w ≡ true → NotImage Format ≡ answer_of l
+      pub format_wrong : not w ≡ true → Err Format ≡ answer_of l
       unfolding answer_of image_verdict known
       format_wrong q = simp (le-leb 24 (length l) h, eq-eqb (trailer l 5) 1 (rw ht at k), sym hw ∙ not-true w q)
 
-      pub format_right : not w ≡ false → Image t.ptl t.start t.frames ≡ answer_of l
+      pub format_right : not w ≡ false → Ok (record { ptl = t.ptl; start = t.start; frames = t.frames }) ≡ answer_of l
       unfolding answer_of image_verdict known
       format_right q = rw ht (simp (le-leb 24 (length l) h, eq-eqb (trailer l 5) 1 (rw ht at k), sym hw ∙ not-false w q))

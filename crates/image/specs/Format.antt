@@ -1,11 +1,8 @@
 -- The tests of `well_formed` by name, and the reader's answer as the enum that code hands back.
-use Rattle.std.specs.Prelude.{Bool, List, [], ◌∷◌, ℕ, ◌+◌, ◌*◌, eqb, leb, length, get_or}
+use Rattle.std.specs.Prelude.{Bool, List, [], ◌∷◌, ℕ, ◌+◌, ◌*◌, eqb, leb, length, get_or, Ok, Err}
+use Rattle.model.specs.Answers.{Verdict, ImageAnswer}
 use Rattle.model.specs.Choice.{passes, every_below}
 use Rattle.model.specs.Image.{ptl_of, start_of, frames_of, image_verdict}
-use Rattle.model.specs.declared.Verdict.{Verdict}
-use Rattle.model.specs.declared.Verdict.TheVariants.{Granted, Refused}
-use Rattle.model.specs.declared.ImageAnswer.{ImageAnswer}
-use Rattle.model.specs.declared.ImageAnswer.TheVariants.{Image, NotImage}
 use Rattle.image.specs.declared.trailer.Trailer.{Trailer}
 
 -- ptl, the two distances and the label's length
@@ -22,8 +19,8 @@ abbrev pub rights_right : List ℕ → Bool
 rights_right rights = every_below (length rights) (λ x. leb (get_or rights x 0) 3)
 
 abbrev pub answer_by : Verdict → List ℕ → ImageAnswer
-answer_by Granted l = Image (ptl_of l) (start_of l) (frames_of l)
-answer_by (Refused r) l = NotImage r
+answer_by (Ok tt) l = Ok (record { ptl = ptl_of l; start = start_of l; frames = frames_of l })
+answer_by (Err r) l = Err r
 
 unfoldable pub answer_of : List ℕ → ImageAnswer
-answer_of l = answer_by (image_verdict l Granted) l
+answer_of l = answer_by (image_verdict l (Ok tt)) l

@@ -1,8 +1,8 @@
 -- The image at hand and what its functions promise: its answer is the one for its file, and its sections are found by its answer alone.
 use Rattle.std.specs.Prelude.{◌≡◌, List, ℕ}
 use Rattle.std.specs.Borrow.{Bor}
+use Rattle.model.specs.Answers.{ImageAnswer}
 use Rattle.model.specs.Parts.{Part, PartOf, pages_part, rights_part}
-use Rattle.model.specs.declared.ImageAnswer.{ImageAnswer}
 use Rattle.image.specs.Sections.{pages_by_answer, rights_by_answer}
 use Rattle.image.specs.Format.{answer_of}
 use Rattle.image.specs.declared.at_hand.Image.{Image}

@@ -1,8 +1,7 @@
 -- The sections of a file, by the ptl that one has read, and by the answer: total, so that code may ask for them by any.
-use Rattle.std.specs.Prelude.{◌&&◌, List, ℕ, ◌+◌, ◌-◌, ◌*◌, leb, length, if◌then◌else◌}
+use Rattle.std.specs.Prelude.{◌&&◌, List, ℕ, ◌+◌, ◌-◌, ◌*◌, leb, length, if◌then◌else◌, Err, Ok}
+use Rattle.model.specs.Answers.{ImageAnswer}
 use Rattle.model.specs.Parts.{Part, part_at, no_part}
-use Rattle.model.specs.declared.ImageAnswer.{ImageAnswer}
-use Rattle.model.specs.declared.ImageAnswer.TheVariants.{Image, NotImage}
 
 -- the n bytes that begin `back` bytes before the end; none where the file has no such part
 unfoldable pub section : List ℕ → ℕ → ℕ → Part
@@ -16,9 +15,9 @@ pages_by l ptl = section l (24 + ptl + 4096 * ptl) (4096 * ptl)
 
 -- "an empty part for each part" of a refused image
 abbrev pub rights_by_answer : List ℕ → ImageAnswer → Part
-rights_by_answer l (Image ptl start frames) = rights_by l ptl
-rights_by_answer l (NotImage r) = no_part
+rights_by_answer l (Ok w) = rights_by l w.ptl
+rights_by_answer l (Err r) = no_part
 
 abbrev pub pages_by_answer : List ℕ → ImageAnswer → Part
-pages_by_answer l (Image ptl start frames) = pages_by l ptl
-pages_by_answer l (NotImage r) = no_part
+pages_by_answer l (Ok w) = pages_by l w.ptl
+pages_by_answer l (Err r) = no_part

@@ -15,7 +15,7 @@ pub fn keep<'a>(file: &'a [u8]) -> Image<'a>
     ensures { KeepPromise file.entry result }
 {
     Image {
-        file: file,
+        file,
         answer: format::answer(file),
     }
 }

@@ -6,7 +6,7 @@ ghost use Rattle.image.specs.Format as format;
 
 use crate::trailer::Trailer;
 use crate::{sections, trailer};
-use model::{ImageAnswer, Refusal};
+use model::{ImageAnswer, Refusal, Written};
 
 // "With ptl 1 to 1024, the distances must be 24+ptl and 24+ptl+4096·ptl and lie within the file. At most 1024 bytes may stand
 // before the pages." Nothing is multiplied before ptl is tested.
@@ -32,10 +32,8 @@ pub fn rights_right(rights: &[u8]) -> bool
     ensures { result ≡ format.rights_right rights.now }
 {
     let mut right = true;
-    let mut x = 0;
-    while x < rights.len() {
-        right = right & (rights[x] <= 3);
-        x += 1;
+    for &byte in rights {
+        right = right & (byte <= 3);
     }
     right
 }
@@ -71,18 +69,18 @@ pub(crate) fn answer(file: &[u8]) -> ImageAnswer
     ensures { result ≡ format.answer_of file.now }
 {
     if file.len() < 24 {
-        return ImageAnswer::NotImage(Refusal::Edition);
+        return Err(Refusal::Edition);
     }
     let t = trailer::numbers(file);
     if t.edition != 1 {
-        return ImageAnswer::NotImage(Refusal::Edition);
+        return Err(Refusal::Edition);
     }
     if !well_formed(file, t) {
-        return ImageAnswer::NotImage(Refusal::Format);
+        return Err(Refusal::Format);
     }
-    ImageAnswer::Image {
+    Ok(Written {
         ptl: t.ptl,
         start: t.start,
         frames: t.frames,
-    }
+    })
 }

@@ -12,20 +12,20 @@ mod sections;
 mod trailer;
 
 // "ptl, start and frames as written"
-pub fn read<'a>(file: &'a [u8]) -> ImageAnswer
+pub fn read(file: &[u8]) -> ImageAnswer
     ensures { ImagePromise file.now result }
 {
     at_hand::answer(at_hand::keep(file))
 }
 
 // The two sections, each a part of the file's own bytes; "an empty part for each part" where the image is refused.
-pub fn pages<'a>(file: &'a [u8]) -> &'a [u8]
+pub fn pages(file: &[u8]) -> &[u8]
     ensures { PagesPromise file.entry result }
 {
     at_hand::pages(at_hand::keep(file))
 }
 
-pub fn rights<'a>(file: &'a [u8]) -> &'a [u8]
+pub fn rights(file: &[u8]) -> &[u8]
     ensures { RightsPromise file.entry result }
 {
     at_hand::rights(at_hand::keep(file))

@@ -39,12 +39,8 @@ pub(crate) fn rights_by_answer(file: &[u8], answer: ImageAnswer) -> &[u8]
     ensures { PartOf file.entry (sections.rights_by_answer file.now answer) result }
 {
     match answer {
-        ImageAnswer::Image {
-            ptl,
-            start: _,
-            frames: _,
-        } => rights_of(file, ptl),
-        ImageAnswer::NotImage(_) => &file[..0],
+        Ok(written) => rights_of(file, written.ptl),
+        Err(_) => &file[..0],
     }
 }
 
@@ -52,11 +48,7 @@ pub(crate) fn pages_by_answer(file: &[u8], answer: ImageAnswer) -> &[u8]
     ensures { PartOf file.entry (sections.pages_by_answer file.now answer) result }
 {
     match answer {
-        ImageAnswer::Image {
-            ptl,
-            start: _,
-            frames: _,
-        } => pages_of(file, ptl),
-        ImageAnswer::NotImage(_) => &file[..0],
+        Ok(written) => pages_of(file, written.ptl),
+        Err(_) => &file[..0],
     }
 }

@@ -19,11 +19,11 @@ pub(crate) fn numbers(file: &[u8]) -> Trailer
 {
     let first = file.len() - 24;
     Trailer {
-        rights: words::word_at(file, first),
-        pages: words::word_at(file, first + 4),
-        ptl: words::word_at(file, first + 8),
-        start: words::word_at(file, first + 12),
-        frames: words::word_at(file, first + 16),
-        edition: words::word_at(file, first + 20),
+        rights: words::number_at::<4>(file, first),
+        pages: words::number_at::<4>(file, first + 4),
+        ptl: words::number_at::<4>(file, first + 8),
+        start: words::number_at::<4>(file, first + 12),
+        frames: words::number_at::<4>(file, first + 16),
+        edition: words::number_at::<4>(file, first + 20),
     }
 }

@@ -1,29 +1,22 @@
--- The words of an answer: stored one by one (`all_set`, of any answer), and by the reader's case.
+-- The words of an answer, by the reader's case.
 use mathlib.Core.Path.{◌≡◌, ap, ◌∙◌}
-use mathlib.Core.List.{List, [], ◌∷◌, ◌++◌, append-nil}
-use Prim.Native.Nat.{ℕ, ◌+◌}
-use native.Mathlib.Omega.{arith}
-use lib.ListN.{length, drop_of_length-le}
-use lib.Seq.{sets, sets-eq}
+use mathlib.Core.List.{List, [], ◌∷◌}
+use Prim.Native.Nat.{ℕ}
+use lib.ListN.{length}
 use borrow.Author.Tests.{eq-eqb, ne_eqb}
-use Rattle.model.specs.Answers.{refusal_number, image_numbers}
+use Rattle.std.specs.Prelude.{Err, Ok}
+use Rattle.model.specs.Answers.{refusal_number, image_numbers, ImageAnswer}
 use Rattle.model.specs.Image.{image_call}
 use Rattle.model.specs.declared.Refusal.{Refusal}
+use Rattle.model.specs.declared.Written.{Written}
 use Rattle.model.specs.declared.Refusal.TheVariants.{Bound}
-use Rattle.model.specs.declared.ImageAnswer.{ImageAnswer}
-use Rattle.model.specs.declared.ImageAnswer.TheVariants.{Image, NotImage}
 use Rattle.imagewords.specs.Image.{image_words, imaged, image}
 
--- stores to every place
-pub all_set : (vs l : List ℕ) → length l ≡ length vs → sets l 0 vs ≡ vs
-all_set vs l e =
-    sets-eq vs l 0 (omega arith) ∙ ap (λ z. vs ++ z) (drop_of_length-le l {i = 0 + length vs} (omega arith)) ∙ append-nil vs
+pub is_image : (a : ImageAnswer) (i : Written) → a ≡ Ok i → (w : List ℕ) → w ≡ i.ptl ∷ i.start ∷ i.frames ∷ []
+    → (0 ≡ (image_numbers a).verdict.refused) × (w ≡ image_words (image_numbers a))
+is_image a i e w ew = (simp e, simp (e, ew))
 
-pub is_image : (a : ImageAnswer) (ptl start frames : ℕ) → a ≡ Image ptl start frames
-    → (w : List ℕ) → w ≡ ptl ∷ start ∷ frames ∷ [] → (0 ≡ (image_numbers a).verdict.refused) × (w ≡ image_words (image_numbers a))
-is_image a ptl start frames e w ew = (simp e, simp (e, ew))
-
-pub not_image : (a : ImageAnswer) (r : Refusal) → a ≡ NotImage r → (n : ℕ) → n ≡ refusal_number r
+pub not_image : (a : ImageAnswer) (r : Refusal) → a ≡ Err r → (n : ℕ) → n ≡ refusal_number r
     → (w : List ℕ) → w ≡ 0 ∷ 0 ∷ 0 ∷ [] → (n ≡ (image_numbers a).verdict.refused) × (w ≡ image_words (image_numbers a))
 not_image a r e n en w ew = (simp (e, en), simp (e, ew))
 

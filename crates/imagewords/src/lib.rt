@@ -8,14 +8,12 @@ ghost use Rattle.imagewords.specs.Image.{image_words, ImagePromise};
 
 use model::ImageAnswer;
 
-// An answer of three words.
-pub fn put_three(answer: &mut [u32], first: u32, second: u32, third: u32)
+// An answer of three numbers.
+pub fn put_three<T: Copy>(answer: &mut [T], first: T, second: T, third: T)
     requires { length answer.old ≡ 3 }
     ensures { answer.new ≡ first ∷ second ∷ third ∷ [] }
 {
-    answer[0] = first;
-    answer[1] = second;
-    answer[2] = third;
+    answer.copy_from_slice(&[first, second, third]);
 }
 
 fn put_image(answer: &mut [u32], a: ImageAnswer) -> u32
@@ -23,11 +21,11 @@ fn put_image(answer: &mut [u32], a: ImageAnswer) -> u32
     ensures { (result ≡ (numbers.image_numbers a).verdict.refused) × (answer.new ≡ image_words (numbers.image_numbers a)) }
 {
     match a {
-        ImageAnswer::Image { ptl, start, frames } => {
-            put_three(answer, ptl, start, frames);
+        Ok(written) => {
+            put_three(answer, written.ptl, written.start, written.frames);
             0
         }
-        ImageAnswer::NotImage(r) => {
+        Err(r) => {
             put_three(answer, 0, 0, 0);
             answers::refusal_number(r)
         }

@@ -10,6 +10,8 @@ use Prim.Native.Nat.{ℕ, ◌*◌, ◌<◌}
 use native.Mathlib.Omega.{arith}
 use lib.ListN.{length, get_or, take, drop}
 use lib.Seq.{get_or-set_other}
+use Rattle.std.specs.Prelude.{Ok, Err}
+use Rattle.model.specs.Answers.{Verdict}
 use Rattle.model.specs.Bytes.{page}
 use Rattle.model.specs.Frames.{page_in, marked}
 use Rattle.model.specs.State.{State}
@@ -19,8 +21,6 @@ use Rattle.model.specs.Calls.{run_verdict, run_by, run_call, host_verdict, read_
 use Rattle.model.specs.Series.{Call, runs, reads, writes, views, replies, after, SeriesStep, calls, spares, spared, after_step, after_all}
 use Rattle.model.specs.declared.Machine.{Machine}
 use Rattle.model.specs.declared.VirtualPage.{VirtualPage}
-use Rattle.model.specs.declared.Verdict.{Verdict}
-use Rattle.model.specs.declared.Verdict.TheVariants.{Granted, Refused}
 use Rattle.laws.specs.Good.{Good}
 use Rattle.laws.specs.Mapped.{SameSize}
 use Rattle.laws.specs.Entries.{SameKept}
@@ -40,8 +40,8 @@ unfolding reply_call
 reply_call_lem m i v = by (reply_verdict i)
   where
     by : (w : Verdict) → (reply_by w m i v).verdict.refused ≡ 0 → (reply_by w m i v).machine ≡ with_register m i v
-    by Granted e = refl
-    by (Refused r) e = refused r e
+    by (Ok tt) e = refl
+    by (Err r) e = refused r e
 
 module _ (p : State) (g : Good p) where
   pub read_call_lem : (va : ℕ) (buffer : List ℕ) → (read_call p va buffer).verdict.refused ≡ 0
@@ -51,20 +51,20 @@ module _ (p : State) (g : Good p) where
     where
       by : (v : Verdict) → host_verdict false p va (length buffer) ≡ v → (read_by v p va buffer).verdict.refused ≡ 0
           → (read_by v p va buffer).buffer ≡ take (length buffer) (drop va (flat p).bytes)
-      by Granted q e = read_flat p.machine.shape p.memory va (length buffer) (host_inside false p va (length buffer) q)
-      by (Refused r) q e = refused r e
+      by (Ok tt) q e = read_flat p.machine.shape p.memory va (length buffer) (host_inside false p va (length buffer) q)
+      by (Err r) q e = refused r e
 
   pub view_call_lem : (x : VirtualPage) → (view_call p x).verdict.refused ≡ 0 → (view_call p x).part ≡ page (flat p).bytes x.0
   unfolding view_call flat
   view_call_lem x = by (view_verdict p x) refl
     where
       by : (v : Verdict) → view_verdict p x ≡ v → (view_by v p x).verdict.refused ≡ 0 → (view_by v p x).part ≡ page (flat p).bytes x.0
-      by Granted q e = view_flat p.machine.shape p.machine.book p.memory g.fit g.whole g.seated x (view_inside p x q)
-      by (Refused r) q e = refused r e
+      by (Ok tt) q e = view_flat p.machine.shape p.machine.book p.memory g.fit g.whole g.seated x (view_inside p x q)
+      by (Err r) q e = refused r e
 
   -- ---- a write
   module _ (va : ℕ) (bytes : List ℕ) where
-    granted : host_verdict true p va (length bytes) ≡ Granted → Wrote p.machine.shape p.memory va bytes (bytes_to p.machine.shape p.memory va bytes)
+    granted : host_verdict true p va (length bytes) ≡ Ok tt → Wrote p.machine.shape p.memory va bytes (bytes_to p.machine.shape p.memory va bytes)
     granted q =
         wrote p.machine.shape p.machine.book p.memory g.fit g.whole g.seated va bytes (host_inside true p va (length bytes) q)
 
@@ -74,11 +74,11 @@ module _ (p : State) (g : Good p) where
       where
         by : (v : Verdict) → host_verdict true p va (length bytes) ≡ v → (write_by v p va bytes).verdict.refused ≡ 0
             → flat (write_by v p va bytes).state ≡ flat_write (flat p) va bytes
-        by Granted q e =
+        by (Ok tt) q e =
             ap₂ {C = Flat} (λ l rights. record { gpr = p.machine.gpr; pcs = p.machine.pcs; bytes = l; rights = rights })
             ((granted q).stored ∙ sets_put p.machine.shape p.memory va bytes (host_inside true p va (length bytes) q))
             (kept_rights p.machine.shape p.memory (bytes_to p.machine.shape p.memory va bytes) g.fit (granted q).kept)
-        by (Refused r) q e = refused r e
+        by (Err r) q e = refused r e
 
     -- each frame whose page gets a byte has its mark then, and each that had it
     pub write_marks : (write_call p va bytes).verdict.refused ≡ 0 → (f : ℕ) → f < p.machine.book.used
@@ -91,10 +91,10 @@ module _ (p : State) (g : Good p) where
             → (f : ℕ) → f < p.machine.book.used
             → (marked (write_by v p va bytes).state.machine.book.marks f ≡ true)
             ↔ ((marked p.machine.book.marks f ≡ true) ⊎ Gets va (length bytes) (page_in p.machine.book f))
-        by Granted q e =
+        by (Ok tt) q e =
             marks_for_lem p.machine.shape p.machine.book p.memory.main g.seated va (length bytes) (host_inside true p va (length bytes) q)
             p.machine.book.marks
-        by (Refused r) q e = refused r e
+        by (Err r) q e = refused r e
 
     -- refused or not
     pub write_machine : (write_call p va bytes).state.machine ≡ with_marks p.machine (write_call p va bytes).state.machine.book.marks
@@ -102,8 +102,8 @@ module _ (p : State) (g : Good p) where
     write_machine = by (host_verdict true p va (length bytes))
       where
         by : (v : Verdict) → (write_by v p va bytes).state.machine ≡ with_marks p.machine (write_by v p va bytes).state.machine.book.marks
-        by Granted = refl
-        by (Refused r) = refl
+        by (Ok tt) = refl
+        by (Err r) = refl
 
     pub write_off : (j : ℕ) → Off (4096 * p.machine.shape.abase) (4096 * p.machine.shape.frames) j
         → get_or (write_call p va bytes).state.memory.main j 0 ≡ get_or p.memory.main j 0
@@ -111,15 +111,15 @@ module _ (p : State) (g : Good p) where
     write_off j o = by (host_verdict true p va (length bytes)) refl
       where
         by : (v : Verdict) → host_verdict true p va (length bytes) ≡ v → get_or (write_by v p va bytes).state.memory.main j 0 ≡ get_or p.memory.main j 0
-        by Granted q = (granted q).kept.off j o
-        by (Refused r) q = refl
+        by (Ok tt) q = (granted q).kept.off j o
+        by (Err r) q = refl
 
     write_good : Good (write_call p va bytes).state
     unfolding write_call
     write_good = by (host_verdict true p va (length bytes)) refl
       where
         by : (v : Verdict) → host_verdict true p va (length bytes) ≡ v → Good (write_by v p va bytes).state
-        by Granted q = record {
+        by (Ok tt) q = record {
           fit = kept_fit p.machine.shape p.memory (bytes_to p.machine.shape p.memory va bytes) g.fit (granted q).kept;
           whole = (granted q).kept.swap_long ∙ g.whole;
           seated = seated_marks p.machine.shape p.machine.book _ _
@@ -129,7 +129,7 @@ module _ (p : State) (g : Good p) where
               (host_inside true p va (length bytes) q) p.machine.book.marks g.clean;
           zero = g.zero;
         }
-        by (Refused r) q = g
+        by (Err r) q = g
 
   -- ---- every call, refused or not
   pub call_good : (c : Call) → Good (after p c)
@@ -137,15 +137,15 @@ module _ (p : State) (g : Good p) where
   call_good (runs n) = by (run_verdict p n)
     where
       by : (v : Verdict) → Good (run_by v p n).state
-      by Granted = (run_right n (uncounted p) g).good
-      by (Refused r) = g
+      by (Ok tt) = (run_right n (uncounted p) g).good
+      by (Err r) = g
   call_good (reads va n) = g
   call_good (writes va bytes) = write_good va bytes
   call_good (views x) = g
   call_good (replies i v) = by (reply_verdict i) refl
     where
       by : (w : Verdict) → reply_verdict i ≡ w → Good (record { machine = (reply_by w p.machine i v).machine; memory = p.memory })
-      by Granted q = record {
+      by (Ok tt) q = record {
         fit = g.fit;
         whole = g.whole;
         seated = g.seated;
@@ -153,23 +153,23 @@ module _ (p : State) (g : Good p) where
         clean = g.clean;
         zero = get_or-set_other p.machine.gpr i 0 v 0 (λ e. omega (arith, e, reply_register i q)) ∙ g.zero;
       }
-      by (Refused r) q = g
+      by (Err r) q = g
 
   call_shape : (c : Call) → (after p c).machine.shape ≡ p.machine.shape
   unfolding after run_call reply_call
   call_shape (runs n) = by (run_verdict p n)
     where
       by : (v : Verdict) → (run_by v p n).state.machine.shape ≡ p.machine.shape
-      by Granted = (run_right n (uncounted p) g).size.shape
-      by (Refused r) = refl
+      by (Ok tt) = (run_right n (uncounted p) g).size.shape
+      by (Err r) = refl
   call_shape (reads va n) = refl
   call_shape (writes va bytes) = ap (λ m. m.shape) (write_machine va bytes)
   call_shape (views x) = refl
   call_shape (replies i v) = by (reply_verdict i)
     where
       by : (w : Verdict) → (reply_by w p.machine i v).machine.shape ≡ p.machine.shape
-      by Granted = refl
-      by (Refused r) = refl
+      by (Ok tt) = refl
+      by (Err r) = refl
 
   pub call_size : (c : Call) → SameSize p (after p c)
   call_size c = same_size p (after p c) g (call_good c) (call_shape c)
@@ -180,8 +180,8 @@ module _ (p : State) (g : Good p) where
   call_kept (runs n) = by (run_verdict p n)
     where
       by : (v : Verdict) → SameKept p (run_by v p n).state
-      by Granted = run_kept n (uncounted p) g
-      by (Refused r) = λ x q. refl
+      by (Ok tt) = run_kept n (uncounted p) g
+      by (Err r) = λ x q. refl
   call_kept (reads va n) = λ x q. refl
   call_kept (writes va bytes) = off_kept p (write_call p va bytes).state g (write_off va bytes)
   call_kept (views x) = λ y q. refl

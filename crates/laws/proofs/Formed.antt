@@ -8,13 +8,12 @@ use Prim.Native.Nat.{ℕ, ◌+◌}
 use lib.Dec.{eqb, leb}
 use lib.ListN.{length}
 use borrow.Author.Tests.{leb-true, eqb-true, le-leb, eq-eqb}
+use Rattle.std.specs.Prelude.{Ok, Err}
 use Rattle.model.specs.State.{Memory}
-use Rattle.model.specs.Answers.{verdict_numbers}
+use Rattle.model.specs.Answers.{verdict_numbers, Verdict}
 use Rattle.model.specs.Calls.{unless}
 use Rattle.model.specs.Image.{ptl_of, frames_of, known, frames_right, well_formed, image_verdict, image_by, image_call, meant, least_main_pages, room, load_verdict, load_by, load_call}
 use Rattle.model.specs.declared.Refusal.TheVariants.{Edition, Format, Room}
-use Rattle.model.specs.declared.Verdict.{Verdict}
-use Rattle.model.specs.declared.Verdict.TheVariants.{Granted, Refused}
 use Rattle.laws.specs.Formed.{Known, SomeFrames, Formed, Roomy, Accepted}
 use Rattle.laws.proofs.Choice.{and_left, and_right, and_both, or_left, or_right, every_at, every_from, pass, pass_none, pass_more}
 use Rattle.laws.proofs.Granted.{granted, unless_granted}
@@ -88,7 +87,7 @@ module _ (frames ptl main_length swap_length : ℕ) where
 
 -- ---- the verdicts
 module _ (l : List ℕ) where
-  pub image_facts : (after : Verdict) → image_verdict l after ≡ Granted → Known l × Formed l × (after ≡ Granted)
+  pub image_facts : (after : Verdict) → image_verdict l after ≡ Ok tt → Known l × Formed l × (after ≡ Ok tt)
   unfolding image_verdict
   image_facts after e =
       let k = unless_granted (known l) Edition (unless (well_formed l) Format after) e in
@@ -103,15 +102,15 @@ module _ (l : List ℕ) where
   -- ---- the reader
   pub read_facts : (image_call l).numbers.verdict.refused ≡ 0 → Known l × Formed l
   unfolding image_call
-  read_facts e = let t = image_facts Granted (granted _ (numbers (image_verdict l Granted) e)) in (t.0, t.1)
+  read_facts e = let t = image_facts (Ok tt) (granted _ (numbers (image_verdict l (Ok tt)) e)) in (t.0, t.1)
     where
       numbers : (v : Verdict) → (image_by v l).numbers.verdict.refused ≡ 0 → (verdict_numbers v).refused ≡ 0
-      numbers Granted q = refl
-      numbers (Refused r) q = q
+      numbers (Ok tt) q = refl
+      numbers (Err r) q = q
 
-  pub read_accepted : Known l → Formed l → image_call l ≡ image_by Granted l
+  pub read_accepted : Known l → Formed l → image_call l ≡ image_by (Ok tt) l
   unfolding image_call
-  read_accepted k f = rw (image_onward Granted k f)
+  read_accepted k f = rw (image_onward (Ok tt) k f)
 
   -- ---- loading
   module _ (m : Memory) where
@@ -119,13 +118,13 @@ module _ (l : List ℕ) where
     unfolding load_call load_verdict
     load_facts e =
         let t = image_facts _ (granted _ (number (load_verdict l m) e)) in
-        let r = unless_granted (room (frames_of l) (ptl_of l) (length m.main) (length m.swap)) Room Granted t.2 in
+        let r = unless_granted (room (frames_of l) (ptl_of l) (length m.main) (length m.swap)) Room (Ok tt) t.2 in
         record { known = t.0; formed = t.1; roomy = roomy_of (frames_of l) (ptl_of l) (length m.main) (length m.swap) r.0 }
       where
         number : (v : Verdict) → (load_by v l m).verdict.refused ≡ 0 → (verdict_numbers v).refused ≡ 0
-        number Granted q = refl
-        number (Refused r) q = q
+        number (Ok tt) q = refl
+        number (Err r) q = q
 
-    pub load_accepted : Accepted l m → load_call l m ≡ load_by Granted l m
+    pub load_accepted : Accepted l m → load_call l m ≡ load_by (Ok tt) l m
     unfolding load_call load_verdict
     load_accepted a = rw (image_onward _ a.known a.formed, room_of _ _ _ _ a.roomy)

@@ -1,7 +1,8 @@
 -- "Outside the frames, a call changes main memory only in the table entries that a page load names": the pages that the handler's
 -- steps name, brought in or put out, along the definitions of an instruction, a run and a call; the victims alone; and the victims
 -- that are copied back to swap.
-use Rattle.std.specs.Prelude.{List, [], ◌∷◌, ◌++◌, ℕ, zero, suc, ◌+◌, ◌≤◌, if◌then◌else◌}
+use Rattle.std.specs.Prelude.{List, [], ◌∷◌, ◌++◌, ℕ, zero, suc, ◌+◌, ◌≤◌, if◌then◌else◌, Ok, Err}
+use Rattle.model.specs.Answers.{Verdict}
 use Rattle.model.specs.Pages.{page_of}
 use Rattle.model.specs.Frames.{page_in, free, frame, copies}
 use Rattle.model.specs.State.{State}
@@ -11,8 +12,6 @@ use Rattle.model.specs.Calls.{run_verdict}
 use Rattle.model.specs.Series.{Call, runs, reads, writes, views, replies}
 use Rattle.model.specs.declared.FrameBook.{FrameBook}
 use Rattle.model.specs.declared.VirtualPage.{VirtualPage}
-use Rattle.model.specs.declared.Verdict.{Verdict}
-use Rattle.model.specs.declared.Verdict.TheVariants.{Granted, Refused}
 use Rattle.model.specs.declared.Outcome.{Outcome}
 use Rattle.model.specs.declared.Outcome.TheVariants.{Done, Wrote, Trapped, Missing, Stopped}
 
@@ -46,8 +45,8 @@ names_onward (stops s n c) rest = []
 
 -- only a run that is granted names any
 abbrev pub names_granted : Verdict → List VirtualPage → List VirtualPage
-names_granted Granted names = names
-names_granted (Refused r) names = []
+names_granted (Ok tt) names = names
+names_granted (Err r) names = []
 
 -- ---- what is told of the load of each page that is missed, by the state then, one load after another
 module _ (told : State → VirtualPage → List VirtualPage) where

@@ -2,20 +2,25 @@
 use mathlib.Core.Bool.{Bool, true, false, not}
 use mathlib.Core.Path.{◌≡◌, refl, sym, ap, ◌∙◌}
 use mathlib.Core.List.{List, [], ◌∷◌}
-use Prim.Native.Nat.{ℕ, ◌+◌, ◌-◌, ◌<◌}
+use Prim.Native.Nat.{ℕ, ◌+◌, ◌-◌, ◌≤◌}
 use native.Mathlib.Omega.{arith}
-use lib.ListN.{length, take, drop}
-use lib.Seq.{drop-length}
-use Rattle.std.specs.Prelude.{if◌then◌else◌}
+use borrow.Author.Tests.{ltb-false}
+use lib.Dec.{ltb}
+use lib.ListN.{length, take, drop, length-drop}
+use Rattle.laws.proofs.Choice.{clash}
+use Rattle.text.proofs.Fronts.{front_inside}
+use Rattle.std.specs.Prelude.{Option, Some, None, option_map, if◌then◌else◌, Err}
+use Rattle.std.specs.List.{prefix_len, position_or_len}
+use Rattle.std.proofs.Common.{Bor}
 use Rattle.model.specs.declared.Refusal.TheVariants.{Mnemonic}
 use Rattle.text.specs.Reading.{front, is_digit}
-use Rattle.notation.specs.Table.{Row}
+use Rattle.notation.specs.Table as table
 use Rattle.notation.specs.Sums.{is_blank, byte_at, skipped}
 use Rattle.notation.specs.Line.{name_at, is_named, read_pieces, instruction_at, plain_at, line_at, line_of}
-use Rattle.notation.specs.declared.Parsed.{Parsed}
-use Rattle.notation.specs.declared.Parsed.TheVariants.{Wrong}
-use Rattle.mnemonics.specs.Rows.{row_place, row_at}
-use Rattle.mnemonics.proofs.Rows.{first_row_lem, place_bound}
+use Rattle.notation.specs.Answers.{Parsed, wrong}
+use Rattle.mnemonics.specs.Rows.{row_of, row_where}
+use Rattle.mnemonics.specs.declared.Row.{Row}
+use Rattle.mnemonics.proofs.Found.{first_some, first_none}
 
 -- a front is the part of the list that it is long
 front_part : (f : ℕ → Bool) (l : List ℕ) → take (length (front f l)) l ≡ front f l
@@ -28,33 +33,66 @@ front_part f (x ∷ xs) = by_test (f x) (front_part f xs)
     by_test true e = ap (λ l. x ∷ l) e
     by_test false e = refl
 
--- nothing stands behind the line
-pub no_name : (s : List ℕ) (i : ℕ) → i ≡ length s → name_at s i ≡ []
+-- and as long as the place of the first that is no part of it
+pub front_long : (f : ℕ → Bool) (l : List ℕ) → length (front f l) ≡ prefix_len f l
 unfolding front
-no_name s i h = rw (h, drop-length s)
+front_long f [] = refl
+front_long f (x ∷ xs) = by_test (f x) (front_long f xs)
+  where
+    by_test : (b : Bool) → length (front f xs) ≡ prefix_len f xs
+        → length (if b then x ∷ front f xs else []) ≡ (if b then 1 + prefix_len f xs else 0)
+    by_test true e = omega (arith, e)
+    by_test false e = refl
+
+-- a name goes up to the first blank behind it, or to the end
+module _ (s : List ℕ) (at : ℕ) (h : at ≤ length s) where
+  abbrev rest : List ℕ
+  rest = drop at s
+
+  abbrev blank_at : ℕ
+  blank_at = position_or_len is_blank rest
+
+  long : length (name_at s at) ≡ blank_at
+  long = front_long (λ c. not (is_blank c)) rest
+
+  within_rest : blank_at ≤ length rest
+  within_rest = omega (arith, long, front_inside (λ c. not (is_blank c)) s at h, length-drop at s)
+
+  module _ (r : Option ℕ) (e : r ≡ (if ltb blank_at (length rest) then Some blank_at else None)) where
+    pub name_stops : (n : ℕ) → r ≡ Some n → (at + n ≡ at + length (name_at s at)) × (at + n ≤ length s)
+    name_stops n f = pick (ltb blank_at (length rest)) (sym e ∙ f)
+      where
+        pick : (b : Bool) → (if b then Some blank_at else None) ≡ Some n → (at + n ≡ at + length (name_at s at)) × (at + n ≤ length s)
+        pick true g = let k : blank_at ≡ n = cc in (omega (arith, k, long), omega (arith, k, within_rest, length-drop at s))
+        pick false g = clash (cc)
+
+    pub name_ends : r ≡ None → (length s ≡ at + length (name_at s at)) × (length s ≤ length s)
+    name_ends f = pick (ltb blank_at (length rest)) refl (sym e ∙ f)
+      where
+        pick : (b : Bool) → ltb blank_at (length rest) ≡ b → (if b then Some blank_at else None) ≡ None
+            → (length s ≡ at + length (name_at s at)) × (length s ≤ length s)
+        pick true k g = clash (cc)
+        pick false k g = (omega (arith, long, ltb-false blank_at (length rest) k, within_rest, length-drop at s), omega arith)
 
 module _ (s : List ℕ) (at next : ℕ) (e : next ≡ at + length (name_at s at)) where
   name_part : take (next - at) (drop at s) ≡ name_at s at
   name_part = let h : next - at ≡ length (name_at s at) = omega (arith, e) in rw h (front_part (λ c. not (is_blank c)) (drop at s))
 
-  abbrev behind : Row → Parsed
+  abbrev behind : table.Row → Parsed
   behind r = read_pieces s r.pieces r.base (at + length (name_at s at))
 
   -- the row of that part of the line
-  module _ (row : ℕ) (found : row ≡ row_place (is_named (take (next - at) (drop at s)))) where
-    place : row ≡ row_place (is_named (name_at s at))
-    place = found ∙ ap (λ l. row_place (is_named l)) name_part
+  module _ (found : Option (Bor Row)) (same : option_map (λ r. row_of r.now) found ≡ row_where (is_named (take (next - at) (drop at s)))) where
+    place : option_map (λ r. row_of r.now) found ≡ row_where (is_named (name_at s at))
+    place = same ∙ ap (λ l. row_where (is_named l)) name_part
 
-    pub within : (row ≡ 49 → ⊥) → row < 49
-    within h = omega (arith, place_bound (is_named (name_at s at)), place, h)
-
-    pub unnamed : row ≡ 49 → Wrong Mnemonic at ≡ instruction_at s at
+    pub unnamed : found ≡ None → Err (wrong Mnemonic at) ≡ instruction_at s at
     unfolding instruction_at
-    unnamed h = sym ((first_row_lem (is_named (name_at s at)) behind (Wrong Mnemonic at)).1 (sym place ∙ h))
+    unnamed h = sym (first_none behind (Err (wrong Mnemonic at)) (is_named (name_at s at)) found place h)
 
-    pub named : row < 49 → read_pieces s (row_at row).pieces (row_at row).base next ≡ instruction_at s at
+    pub named : (r : Bor Row) → found ≡ Some r → read_pieces s r.now.pieces.now r.now.base next ≡ instruction_at s at
     unfolding instruction_at
-    named h = rw (place, e) (sym ((first_row_lem (is_named (name_at s at)) behind (Wrong Mnemonic at)).0 (omega (arith, place))))
+    named r h = rw e (sym (first_some behind (Err (wrong Mnemonic at)) (is_named (name_at s at)) found place r h))
 
 -- ---- a line begins with a digit or with a mnemonic
 module _ (s : List ℕ) (at : ℕ) (skips : at ≡ skipped s 0) (t : Bool) (read : t ≡ is_digit (byte_at s at)) where

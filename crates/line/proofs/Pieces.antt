@@ -8,45 +8,45 @@ use native.Mathlib.Omega.{arith}
 use lib.ListN.{length, get_or, drop}
 use lib.Seq.{drop-cons}
 use borrow.Author.Tests.{eq-eqb, ne_eqb}
+use Rattle.std.specs.Prelude.{Ok, Err}
 use Rattle.model.specs.declared.Refusal.{Refusal}
 use Rattle.model.specs.declared.Refusal.TheVariants.{Operand}
 use Rattle.notation.specs.Sums.{byte_at, skipped, and_then}
 use Rattle.notation.specs.Line.{operand_at, read_piece, read_pieces, ended}
 use Rattle.notation.specs.declared.Piece.{Piece}
 use Rattle.notation.specs.declared.Piece.TheVariants.{Mark, Field}
-use Rattle.notation.specs.declared.Parsed.{Parsed}
-use Rattle.notation.specs.declared.Parsed.TheVariants.{Value, Wrong}
+use Rattle.notation.specs.Answers.{Parsed, wrong}
 use Rattle.grammar.proofs.Places.{byte_inside}
 use Rattle.mnemonics.specs.Rows.{Fine}
 use Rattle.line.proofs.Then.{stays, goes_on}
 
 module _ (s : List ℕ) (w n at : ℕ) (skips : at ≡ skipped s n) where
   -- ---- nothing but blanks
-  pub not_ended : (at ≡ length s → ⊥) → Wrong Operand at ≡ ended s w n
+  pub not_ended : (at ≡ length s → ⊥) → Err (wrong Operand at) ≡ ended s w n
   unfolding ended
   not_ended h = rw (← skips) (simp (ne_eqb _ _ h))
 
-  pub is_ended : at ≡ length s → Value w n ≡ ended s w n
+  pub is_ended : at ≡ length s → Ok (w, n) ≡ ended s w n
   unfolding ended
   is_ended h = rw (← skips) (simp (eq-eqb _ _ h))
 
   -- ---- a mark
   module _ (p : Piece) (b x : ℕ) (e : p ≡ Mark b) (read : x ≡ byte_at s at) where
-    pub mark_wrong : (x ≡ b → ⊥) → Wrong Operand at ≡ read_piece s p w n
+    pub mark_wrong : (x ≡ b → ⊥) → Err (wrong Operand at) ≡ read_piece s p w n
     unfolding read_piece
     mark_wrong h = rw (e, ← skips, ← read) (simp (ne_eqb _ _ h))
 
-    pub mark_right : x ≡ b → Value w (at + 1) ≡ read_piece s p w n
+    pub mark_right : x ≡ b → Ok (w, at + 1) ≡ read_piece s p w n
     unfolding read_piece
     mark_right h = rw (e, ← skips, ← read) (simp (eq-eqb _ _ h))
 
   -- ---- a field
   module _ (p : Piece) (scale size : ℕ) (signed : Bool) (e : p ≡ Field scale size signed) (q : Parsed) (read : q ≡ operand_at s at size signed) where
-    pub field_wrong : {r : Refusal} {k : ℕ} → q ≡ Wrong r k → Wrong r k ≡ read_piece s p w n
+    pub field_wrong : {r : Refusal} {k : ℕ} → q ≡ Err (wrong r k) → Err (wrong r k) ≡ read_piece s p w n
     unfolding read_piece
     field_wrong h = rw (e, ← skips) (stays _ _ read _ h)
 
-    pub field_right : {v k : ℕ} → q ≡ Value v k → Value (w + v * scale) k ≡ read_piece s p w n
+    pub field_right : {v k : ℕ} → q ≡ Ok (v, k) → Ok (w + v * scale, k) ≡ read_piece s p w n
     unfolding read_piece
     field_right h = rw (e, ← skips) (goes_on _ _ read _ h refl)
 
@@ -72,8 +72,8 @@ module _ (s : List ℕ) (w n : ℕ) where
     here : q ≡ read_piece s (get_or ps k (Mark 0)) w n
     here = read ∙ ap (λ x. read_piece s x w n) e
 
-    pub stops : {r : Refusal} {j : ℕ} {x : Parsed} → q ≡ Wrong r j → read_pieces s (drop k ps) w n ≡ x → q ≡ x
+    pub stops : {r : Refusal} {j : ℕ} {x : Parsed} → q ≡ Err (wrong r j) → read_pieces s (drop k ps) w n ≡ x → q ≡ x
     stops h t = h ∙ stays _ q here (read_pieces s (drop (k + 1) ps)) h ∙ sym (one_more ps k (Mark 0) inside) ∙ t
 
-    pub steps : {v j : ℕ} {x : Parsed} → q ≡ Value v j → read_pieces s (drop k ps) w n ≡ x → read_pieces s (drop (k + 1) ps) v j ≡ x
+    pub steps : {v j : ℕ} {x : Parsed} → q ≡ Ok (v, j) → read_pieces s (drop k ps) w n ≡ x → read_pieces s (drop (k + 1) ps) v j ≡ x
     steps h t = goes_on _ q here (read_pieces s (drop (k + 1) ps)) h refl ∙ sym (one_more ps k (Mark 0) inside) ∙ t

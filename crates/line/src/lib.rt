@@ -5,19 +5,19 @@ ghost use Rattle.std.specs.Prelude.{◌≡◌, ◌+◌, ◌≤◌, ◌<◌, ◌^
 ghost use Rattle.notation.specs.Line as line;
 ghost use Rattle.mnemonics.specs.Rows as rows;
 
-use mnemonics::NUMBERS;
+use mnemonics::Row;
 use model::Refusal;
-use notation::{Parsed, Piece};
+use notation::{Parsed, Piece, Wrong};
 use text::reading;
+
+// How 0 is kept in a sum.
+const ZERO: u64 = 2147483648;
 
 // How far below zero a field's numbers begin: "Fields extended by sign take signed values, all others .. unsigned".
 fn below(size: u64, signed: bool) -> u64
     ensures { (result ≡ line.below size signed) × (result ≤ size) }
 {
-    if signed {
-        return size / 2;
-    }
-    0
+    if signed { size / 2 } else { 0 }
 }
 
 // A value in its field.
@@ -26,28 +26,14 @@ fn fit(size: u64, signed: bool, at: usize, v: u64, next: usize) -> Parsed
     ensures { result ≡ line.fitted size signed at v next }
 {
     let up = v + below(size, signed);
-    if up < 2147483648 {
-        return Parsed::Wrong {
+    if !(ZERO..ZERO + size).contains(&up) {
+        return Err(Wrong {
             refusal: Refusal::Overflow,
             place: at,
-        };
+        });
     }
-    if 2147483648 + size <= up {
-        return Parsed::Wrong {
-            refusal: Refusal::Overflow,
-            place: at,
-        };
-    }
-    if 2147483648 <= v {
-        return Parsed::Value {
-            value: v - 2147483648,
-            next: next,
-        };
-    }
-    Parsed::Value {
-        value: v + size - 2147483648,
-        next: next,
-    }
+    let value = if ZERO <= v { v - ZERO } else { v + size - ZERO };
+    Ok((value, next))
 }
 
 // "nested at most eight deep"
@@ -55,13 +41,8 @@ fn operand(s: &[u8], at: usize, size: u64, signed: bool) -> Parsed
     requires { size ≤ 67108864 }
     ensures { result ≡ line.operand_at s.now at size signed }
 {
-    match sums::sum(s, at, 8) {
-        Parsed::Wrong { refusal, place } => Parsed::Wrong {
-            refusal: refusal,
-            place: place,
-        },
-        Parsed::Value { value, next } => fit(size, signed, at, value, next),
-    }
+    let (value, next) = sums::sum(s, at, 8)?;
+    fit(size, signed, at, value, next)
 }
 
 // A piece from place n on; w is the word so far.
@@ -73,30 +54,21 @@ fn read_piece(s: &[u8], p: Piece, w: u64, n: usize) -> Parsed
     match p {
         Piece::Mark(b) => {
             if sums::byte_at(s, at) != b {
-                return Parsed::Wrong {
+                return Err(Wrong {
                     refusal: Refusal::Operand,
                     place: at,
-                };
+                });
             }
-            Parsed::Value {
-                value: w,
-                next: at + 1,
-            }
+            Ok((w, at + 1))
         }
         Piece::Field {
             scale,
             size,
             signed,
-        } => match operand(s, at, size, signed) {
-            Parsed::Wrong { refusal, place } => Parsed::Wrong {
-                refusal: refusal,
-                place: place,
-            },
-            Parsed::Value { value, next } => Parsed::Value {
-                value: w + value * scale,
-                next: next,
-            },
-        },
+        } => {
+            let (value, next) = operand(s, at, size, signed)?;
+            Ok((w + value * scale, next))
+        }
     }
 }
 
@@ -106,31 +78,25 @@ fn ended(s: &[u8], w: u64, n: usize) -> Parsed
 {
     let at = sums::skip(s, n);
     if at != s.len() {
-        return Parsed::Wrong {
+        return Err(Wrong {
             refusal: Refusal::Operand,
             place: at,
-        };
+        });
     }
-    Parsed::Value { value: w, next: n }
+    Ok((w, n))
 }
 
 // What stands behind the mnemonic of a row, from a place on.
-fn read_pieces(t: &[u64; NUMBERS], s: &[u8], row: usize, from: usize) -> Parsed
-    requires { rows.Tabled t.now × (row < 49) }
-    ensures { result ≡ line.read_pieces s.now (rows.row_at row).pieces (rows.row_at row).base from }
+fn read_pieces(s: &[u8], row: &Row, from: usize) -> Parsed
+    requires { rows.Formed row.now }
+    ensures { result ≡ line.read_pieces s.now row.now.pieces.now row.now.base from }
 {
-    let count = mnemonics::count(t, row);
-    let mut w = mnemonics::base(t, row);
+    let mut w = row.base as u64;
     let mut n = from;
-    let mut k = 0;
-    while k < count {
-        let p = read_piece(s, mnemonics::piece(t, row, k), w, n);
-        let Parsed::Value { value, next } = p else {
-            return p;
-        };
+    for piece in row.pieces {
+        let (value, next) = read_piece(s, *piece, w, n)?;
         w = value;
         n = next;
-        k += 1;
     }
     ended(s, w, n)
 }
@@ -138,53 +104,42 @@ fn read_pieces(t: &[u64; NUMBERS], s: &[u8], row: usize, from: usize) -> Parsed
 // The place behind the mnemonic that begins at a place.
 fn name_end(s: &[u8], at: usize) -> usize
     requires { at ≤ length s.now }
-    ensures { (result ≡ at + length (line.name_at s.now at)) × (at ≤ result) × (result ≤ length s.now) }
+    ensures { (result ≡ at + length (line.name_at s.now at)) × (result ≤ length s.now) }
 {
-    let mut i = at;
-    while i < s.len() {
-        if sums::blank(s[i]) {
-            return i;
-        }
-        i += 1;
+    match s[at..].iter().position(|c| sums::blank(*c)) {
+        Some(n) => at + n,
+        None => s.len(),
     }
-    i
 }
 
-fn instruction(t: &[u64; NUMBERS], s: &[u8], at: usize) -> Parsed
-    requires { rows.Tabled t.now × (at ≤ length s.now) }
+fn instruction(s: &[u8], at: usize) -> Parsed
+    requires { at ≤ length s.now }
     ensures { result ≡ line.instruction_at s.now at }
 {
     let end = name_end(s, at);
-    let row = mnemonics::named(t, &s[at..end]);
-    if row == mnemonics::ROWS {
-        return Parsed::Wrong {
+    let Some(row) = mnemonics::named(&s[at..end]) else {
+        return Err(Wrong {
             refusal: Refusal::Mnemonic,
             place: at,
-        };
-    }
-    read_pieces(t, s, row, end)
+        });
+    };
+    read_pieces(s, row, end)
 }
 
 // "one plain unsigned number up to 4294967295"
 fn plain(s: &[u8], at: usize) -> Parsed
     ensures { result ≡ line.plain_at s.now at }
 {
-    match sums::number(s, at, 4294967295) {
-        Parsed::Wrong { refusal, place } => Parsed::Wrong {
-            refusal: refusal,
-            place: place,
-        },
-        Parsed::Value { value, next } => ended(s, value, next),
-    }
+    let (value, next) = sums::number(s, at, 4294967295)?;
+    ended(s, value, next)
 }
 
-pub fn read(t: &[u64; NUMBERS], s: &[u8]) -> Parsed
-    requires { rows.Tabled t.now }
+pub fn read(s: &[u8]) -> Parsed
     ensures { result ≡ line.line_of s.now }
 {
     let at = sums::skip(s, 0);
     if reading::digit_at(s, at) {
         return plain(s, at);
     }
-    instruction(t, s, at)
+    instruction(s, at)
 }

@@ -12,7 +12,7 @@ use Rattle.notation.specs.Listing.{with_piece, filled, value_text, piece_text, p
 use Rattle.notation.specs.declared.Piece.{Piece}
 use Rattle.notation.specs.declared.Piece.TheVariants.{Field}
 use Rattle.mnemonics.specs.Rows.{Fine}
-use Rattle.mnemonics.proofs.Rows.{within_field}
+use Rattle.mnemonics.proofs.Field.{within_field}
 
 -- what a field adds to a word
 pub piece_within : {p : Piece} {scale size x : ℕ} {signed : Bool} → Fine p → p ≡ Field scale size signed → x < size → x * scale < 4294967296

@@ -4,7 +4,7 @@ ghost use Rattle.text.specs.Text.{Appended};
 ghost use Rattle.notation.specs.Listing as listing;
 ghost use Rattle.mnemonics.specs.Rows as rows;
 
-use mnemonics::NUMBERS;
+use mnemonics::Row;
 use notation::Piece;
 
 // The number in a field of a word.
@@ -31,16 +31,13 @@ fn with_piece(p: Piece, v: u64, w: u32) -> u64
 }
 
 // The word with the fields of w, and zero in every other.
-fn filled(t: &[u64; NUMBERS], row: usize, w: u32) -> u64
-    requires { rows.Tabled t.now × (row < 49) }
-    ensures { result ≡ listing.filled (rows.row_at row).pieces (rows.row_at row).base w }
+fn filled(row: &Row, w: u32) -> u64
+    requires { rows.Formed row.now }
+    ensures { result ≡ listing.filled row.now.pieces.now row.now.base w }
 {
-    let count = mnemonics::count(t, row);
-    let mut v = mnemonics::base(t, row);
-    let mut k = 0;
-    while k < count {
-        v = with_piece(mnemonics::piece(t, row, k), v, w);
-        k += 1;
+    let mut v = row.base as u64;
+    for piece in row.pieces {
+        v = with_piece(*piece, v, w);
     }
     v
 }
@@ -51,7 +48,7 @@ fn put_value(out: &mut [u8], at: usize, size: u64, signed: bool, x: u64) -> usiz
     ensures { Appended out.old at out.new result (listing.value_text size signed x) × (result ≤ at + 11) }
 {
     if signed & (size / 2 <= x) {
-        out[at] = 45;
+        out[at] = b'-';
         return text::put_number(out, at + 1, (size - x) as u32);
     }
     text::put_number(out, at, x as u32)
@@ -75,52 +72,48 @@ fn put_piece(out: &mut [u8], at: usize, p: Piece, w: u32) -> usize
 }
 
 // The pieces of a row.
-fn put_pieces(out: &mut [u8], at: usize, t: &[u64; NUMBERS], row: usize, w: u32) -> usize
-    requires { rows.Tabled t.now × (row < 49) × (at + 66 ≤ length out.old) }
-    ensures { Appended out.old at out.new result (listing.pieces_text (rows.row_at row).pieces w) }
+fn put_pieces(out: &mut [u8], at: usize, row: &Row, w: u32) -> usize
+    requires { rows.Formed row.now × (at + 66 ≤ length out.old) }
+    ensures { Appended out.old at out.new result (listing.pieces_text row.now.pieces.now w) }
 {
-    let count = mnemonics::count(t, row);
     let mut to = at;
-    let mut k = 0;
-    while k < count {
-        to = put_piece(out, to, mnemonics::piece(t, row, k), w);
-        k += 1;
+    for piece in row.pieces {
+        to = put_piece(out, to, *piece, w);
     }
     to
 }
 
 // A word's line, without its newline.
-#[tactic(auto, using(crate::proofs::Rows::unfilled))]
-pub(crate) fn put(out: &mut [u8], at: usize, t: &[u64; NUMBERS], w: u32) -> usize
-    requires { rows.Tabled t.now × (at + 80 ≤ length out.old) }
+pub(crate) fn put(out: &mut [u8], at: usize, w: u32) -> usize
+    requires { at + 80 ≤ length out.old }
     ensures { Appended out.old at out.new result (listing.listed w) }
 {
-    let row = mnemonics::keyed(t, w);
-    if row == mnemonics::ROWS {
+    let Some(row) = mnemonics::keyed(w) else {
+        return text::put_number(out, at, w);
+    };
+    let full = filled(row, w);
+    let whole = full == w as u64;
+    if !whole {
         return text::put_number(out, at, w);
     }
-    let full = filled(t, row, w);
-    if full != w as u64 {
-        return text::put_number(out, at, w);
-    }
-    let to = mnemonics::put_name(out, at, t, row);
-    out[to] = 32;
-    put_pieces(out, to + 1, t, row, w)
+    let to = text::put(out, at, row.name);
+    out[to] = b' ';
+    put_pieces(out, to + 1, row, w)
 }
 
 // The whole line. Near the end of `out` it is made in a buffer of its own.
-pub(crate) fn put_line(out: &mut [u8], at: usize, t: &[u64; NUMBERS], w: u32) -> usize
-    requires { rows.Tabled t.now × (at + length (listing.listed w) + 1 ≤ length out.old) }
+pub(crate) fn put_line(out: &mut [u8], at: usize, w: u32) -> usize
+    requires { at + length (listing.listed w) + 1 ≤ length out.old }
     ensures { Appended out.old at out.new result (listing.listed w ++ 10 ∷ []) }
 {
     if 80 <= out.len() - at {
-        let to = put(out, at, t, w);
-        out[to] = 10;
+        let to = put(out, at, w);
+        out[to] = b'\n';
         return to + 1;
     }
     let mut line = [0; 80];
-    let n = put(&mut line, 0, t, w);
+    let n = put(&mut line, 0, w);
     let end = text::put(out, at, &line[..n]);
-    out[end] = 10;
+    out[end] = b'\n';
     end + 1
 }

@@ -1,16 +1,11 @@
 -- The memories while they are filled: main with zeros, then with entries, and swap with pages.
-use Rattle.std.proofs.Common.{◌≡◌, ℕ, zero, suc, ◌+◌, ◌-◌, ◌*◌, ◌/◌, ◌%◌, ◌<◌, ◌≤◌, List, [], ◌∷◌, ◌++◌, length, get_or, take, drop, replicate, sym, refl, ap, ◌∙◌, ap₂, append_assoc, append-nil, add-one, arith, length-append, length-drop, drop_of_length-le, length-take-le, take_all, take-suc, drop-drop, take_at, take-add, drop_at}
+use Rattle.std.proofs.Common.{◌≡◌, ℕ, zero, suc, ◌+◌, ◌-◌, ◌*◌, ◌/◌, ◌%◌, ◌<◌, ◌≤◌, List, [], ◌∷◌, ◌++◌, length, get_or, take, drop, replicate, sym, refl, ap, ◌∙◌, ap₂, add-one, arith, length-append, length-drop, length-take-le, take_all, take-suc, drop-drop, take_at, drop_at}
 use lib.Seq.{sets-eq}
-use Rattle.model.specs.Bytes.{store, page, with_page}
+use Rattle.model.specs.Bytes.{store}
 use Rattle.model.specs.Image.{invalid_entry, invalid_entries}
 use Rattle.laws.proofs.Fresh.{length_entries}
 
 -- ---- zeros
-pub all_zero : (d : List ℕ) (i : ℕ) → i ≤ length d → length d ≤ i → replicate i 0 ++ drop i d ≡ replicate (length d) 0
-all_zero d i h k =
-    let e : i ≡ length d = omega arith in
-    rw (drop_of_length-le d k) (append-nil (replicate i 0) ∙ ap (λ n. replicate n 0) e)
-
 zeros_left : (v n k : ℕ) → drop k (replicate n v) ≡ replicate (n - k) v
 zeros_left v zero zero = refl
 zeros_left v zero (suc k) = let e : 0 ≡ 0 - suc k = omega arith in ap (λ (m : ℕ). replicate m v) e
@@ -67,19 +62,3 @@ entries_all r d x h k = let e : x ≡ length r = omega arith in rw (take_all x r
 pub zeros_behind : (r : List ℕ) (n : ℕ)
     → invalid_entries r ++ drop (4 * length r) (replicate n 0) ≡ invalid_entries r ++ replicate (n - 4 * length r) 0
 zeros_behind r n = ap (λ (l : List ℕ). invalid_entries r ++ l) (zeros_left 0 n (4 * length r))
-
--- ---- pages
-next_part : (p d : List ℕ) (i n : ℕ) → i ≤ length p
-    → take i (take i p ++ drop i d) ++ (take n (drop i p) ++ drop (i + n) (take i p ++ drop i d)) ≡ take (i + n) p ++ drop (i + n) d
-next_part p d i n h =
-    let e = length-take-le i p h in
-    ap₂ (λ (u w : List ℕ). u ++ (take n (drop i p) ++ w)) (first (take i p) d i e) (left (take i p) d i e n)
-    ∙ sym (append_assoc (take i p) (take n (drop i p)) (drop (i + n) d))
-    ∙ ap (λ (u : List ℕ). u ++ drop (i + n) d) (sym (take-add i n p))
-
-pub pages_step : (p d : List ℕ) (x : ℕ) → 4096 * x + 4096 ≤ length p
-    → with_page (take (4096 * x) p ++ drop (4096 * x) d) x (page p x) ≡ take (4096 * (x + 1)) p ++ drop (4096 * (x + 1)) d
-unfolding with_page page
-pages_step p d x h =
-    let n : 4096 * x + 4096 ≡ 4096 * (x + 1) = omega arith in
-    next_part p d (4096 * x) 4096 (omega arith) ∙ ap (λ (k : ℕ). take k p ++ drop k d) n

@@ -1,5 +1,5 @@
 -- Loading's outcome by the reader's numbers, the room, and what the lent memories hold in the end.
-use Rattle.std.proofs.Common.{◌≡◌, ℕ, ◌-◌, ◌*◌, ◌/◌, ◌≤◌, Bool, true, false, not, List, ◌++◌, length, replicate, sym, ap, ◌∙◌, arith}
+use Rattle.std.proofs.Common.{◌≡◌, ℕ, ◌-◌, ◌*◌, ◌/◌, ◌≤◌, Bool, true, false, not, List, ◌++◌, length, replicate, sym, ap, ◌∙◌, arith, Ok, Err}
 use borrow.Author.Tests.{not-true, not-false}
 use Rattle.model.specs.Answers.{verdict_numbers, image_numbers}
 use Rattle.model.specs.Calls.{unless, StateOutcome}
@@ -8,9 +8,8 @@ use Rattle.model.specs.Image.{ImageOutcome, image_by, image_call, rights_of, pag
 use Rattle.model.specs.declared.Machine.{Machine}
 use Rattle.model.specs.declared.Refusal.{Refusal}
 use Rattle.model.specs.declared.Refusal.TheVariants.{Room}
-use Rattle.model.specs.declared.Verdict.TheVariants.{Granted}
-use Rattle.model.specs.declared.ImageAnswer.TheVariants.{Image, NotImage}
 use Rattle.model.specs.declared.Handed.{Handed}
+use Rattle.model.specs.declared.Written.{Written}
 use Rattle.laws.specs.Formed.{Roomy}
 use Rattle.laws.proofs.Formed.{roomy_of, image_onward, read_accepted}
 use Rattle.laws.proofs.Fresh.{length-rights, length-pages}
@@ -22,21 +21,21 @@ abbrev pub outcome : Handed → List ℕ → List ℕ → StateOutcome
 outcome h main swap = record { verdict = verdict_numbers h.verdict; state = state h.machine main swap }
 
 module _ (l main swap : List ℕ) where
-  pub not_image : (r : Refusal) → image_numbers (NotImage r) ≡ (image_call l).numbers → (h : Handed) → h ≡ refused_by r
+  pub not_image : (r : Refusal) → image_numbers (Err r) ≡ (image_call l).numbers → (h : Handed) → h ≡ refused_by r
       → outcome h main swap ≡ load_call l (memory main swap)
   unfolding load_call load_verdict
   not_image r e h q = rw (q, read_refused l r e _)
 
   -- an image, by what the code's test of the room says
-  module _ (ptl start frames : ℕ) (e : image_numbers (Image ptl start frames) ≡ (image_call l).numbers) (r : Bool)
-      (hr : r ≡ room frames ptl (length main) (length swap)) where
+  module _ (w : Written) (e : image_numbers (Ok w) ≡ (image_call l).numbers) (r : Bool)
+      (hr : r ≡ room w.frames w.ptl (length main) (length swap)) where
     abbrev m : Memory
     m = memory main swap
 
-    answer : Answered l ptl start frames
-    answer = read_image l ptl start frames e
+    answer : Answered l w.ptl w.start w.frames
+    answer = read_image l w.ptl w.start w.frames e
 
-    verdict : load_verdict l m ≡ unless r Room Granted
+    verdict : load_verdict l m ≡ unless r Room (Ok tt)
     unfolding load_verdict
     verdict = image_onward l _ answer.known answer.formed ∙ rw (← answer.is_frames, ← answer.is_ptl, hr)
 
@@ -45,14 +44,14 @@ module _ (l main swap : List ℕ) where
     no_room n h q = rw (q, verdict, not-true r n)
 
     module _ (n : not r ≡ false) where
-      has_room : Roomy frames ptl (length main) (length swap)
-      has_room = roomy_of frames ptl (length main) (length swap) (sym hr ∙ not-false r n)
+      has_room : Roomy w.frames w.ptl (length main) (length swap)
+      has_room = roomy_of w.frames w.ptl (length main) (length swap) (sym hr ∙ not-false r n)
 
       pub few_pages : length main / 4096 ≤ 64
       few_pages = has_room.pages_most
 
       -- the sections that the reader hands out fit the memories
-      sections : image_call l ≡ image_by Granted l
+      sections : image_call l ≡ image_by (Ok tt) l
       sections = read_accepted l answer.known answer.formed
 
       the_rights : (image_call l).rights ≡ rights_of l
@@ -61,23 +60,23 @@ module _ (l main swap : List ℕ) where
       the_pages : (image_call l).pages ≡ pages_of l
       the_pages = ap (λ (o : ImageOutcome). o.pages) sections
 
-      rights_length_lem : length (image_call l).rights ≡ ptl
+      rights_length_lem : length (image_call l).rights ≡ w.ptl
       rights_length_lem = ap length the_rights ∙ length-rights l answer.formed ∙ sym answer.is_ptl
 
-      pages_length : length (image_call l).pages ≡ 4096 * ptl
+      pages_length : length (image_call l).pages ≡ 4096 * w.ptl
       pages_length = rw (the_pages, answer.is_ptl) (length-pages l answer.formed)
 
       pub table_fits : (rights : List ℕ) → rights ≡ (image_call l).rights → 4 * length rights ≤ length main
       table_fits rights q =
           rw (q, rights_length_lem) (omega (arith, answer.formed.ptl_most, answer.is_ptl, has_room.pages_least))
 
-      pub pages_fit : (pages : List ℕ) → pages ≡ (image_call l).pages → (length pages ≡ 4096 * ptl) × (length swap ≡ 4096 * ptl)
+      pub pages_fit : (pages : List ℕ) → pages ≡ (image_call l).pages → (length pages ≡ 4096 * w.ptl) × (length swap ≡ 4096 * w.ptl)
       pages_fit pages q = (rw q pages_length, has_room.swap_long)
 
-      pub loaded : (machine : Machine) → IsFresh (length main) frames ptl start machine → (rights pages main' swap' : List ℕ)
+      pub loaded : (machine : Machine) → IsFresh (length main) w.frames w.ptl w.start machine → (rights pages main' swap' : List ℕ)
           → rights ≡ (image_call l).rights → pages ≡ (image_call l).pages
           → main' ≡ invalid_entries rights ++ replicate (length main - 4 * length rights) 0 → swap' ≡ pages
-          → outcome (record { machine = machine; verdict = Granted }) main' swap' ≡ load_call l m
+          → outcome (record { machine = machine; verdict = (Ok tt) }) main' swap' ≡ load_call l m
       unfolding load_call fresh
       loaded machine hm rights pages main' swap' qr qp a b =
           rw (

@@ -3,7 +3,7 @@ ghost use Rattle.std.specs.Prelude.{◌≡◌, ◌/◌, ◌≤◌};
 ghost use Rattle.model.specs.Image as image;
 ghost use Rattle.loading.specs.Fresh as fresh;
 
-use model::{FrameBook, Handed, Machine, Pcs, Refusal, Shape, Verdict, VirtualPage};
+use model::{FrameBook, Handed, Machine, Pcs, Refusal, Shape, VirtualPage, Written};
 
 // "A zero in the image's frames field shall mean 4."
 pub(crate) fn meant(frames: u32) -> u32
@@ -44,7 +44,7 @@ fn blank(shape: Shape, pcs: Pcs) -> Machine
     ensures { result ≡ fresh.blank shape pcs }
 {
     Machine {
-        shape: shape,
+        shape,
         book: FrameBook {
             used: 0,
             hand: 0,
@@ -52,26 +52,26 @@ fn blank(shape: Shape, pcs: Pcs) -> Machine
             marks: 0,
         },
         gpr: [0; 32],
-        pcs: pcs,
+        pcs,
     }
 }
 
 // "P the lent main pages, a the frames, abase 1, pto 0, sbase 0", "DPC start, PC' start+4, all else 0"
-pub(crate) fn machine(main: usize, frames: u32, ptl: u32, start: u32) -> Machine
+pub(crate) fn machine(main: usize, written: Written) -> Machine
     requires { main / 4096 ≤ 64 }
-    ensures { fresh.IsFresh main frames ptl start result }
+    ensures { fresh.IsFresh main written.frames written.ptl written.start result }
 {
     let shape = Shape {
         pages: (main / 4096) as u32,
-        frames: meant(frames),
+        frames: meant(written.frames),
         abase: 1,
-        ptl: ptl,
+        ptl: written.ptl,
         pto: 0,
         sbase: 0,
     };
     let pcs = Pcs {
-        dpc: start,
-        next: std::num::wrapping_add_u32(start, 4),
+        dpc: written.start,
+        next: written.start.wrapping_add(4),
     };
     blank(shape, pcs)
 }
@@ -91,6 +91,6 @@ pub fn refused(refusal: Refusal) -> Handed
     let pcs = Pcs { dpc: 0, next: 0 };
     Handed {
         machine: blank(shape, pcs),
-        verdict: Verdict::Refused(refusal),
+        verdict: Err(refusal),
     }
 }

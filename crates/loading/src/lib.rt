@@ -4,7 +4,7 @@
 ghost use Rattle.model.specs.State.{memory};
 ghost use Rattle.model.specs.Promises.{LeastMainPagesPromise, LoadPromise};
 
-use model::{Handed, ImageAnswer, Refusal, Verdict};
+use model::{Handed, Refusal};
 
 pub mod fresh;
 pub mod memory;
@@ -24,17 +24,17 @@ pub fn load(file: &[u8], main: &mut [u8], swap: &mut [u8]) -> Handed
     ensures { LoadPromise file.now (memory main.old swap.old) result main.new swap.new }
 {
     match image::read(file) {
-        ImageAnswer::NotImage(refusal) => fresh::refused(refusal),
-        ImageAnswer::Image { ptl, start, frames } => {
-            if !fresh::room(frames, ptl, main.len(), swap.len()) {
+        Err(refusal) => fresh::refused(refusal),
+        Ok(written) => {
+            if !fresh::room(written.frames, written.ptl, main.len(), swap.len()) {
                 return fresh::refused(Refusal::Room);
             }
-            let machine = fresh::machine(main.len(), frames, ptl, start);
+            let machine = fresh::machine(main.len(), written);
             memory::fill_main(image::rights(file), main);
-            memory::fill_pages(image::pages(file), ptl, swap);
+            memory::fill_pages(image::pages(file), written.ptl, swap);
             Handed {
-                machine: machine,
-                verdict: Verdict::Granted,
+                machine,
+                verdict: Ok(()),
             }
         }
     }

@@ -9,25 +9,13 @@ fn entry(right: u32) -> u32
     4 * (right % 2) + 2 * (right / 2 % 2)
 }
 
-fn clear(main: &mut [u8])
-    ensures { main.new ≡ replicate (length main.old) 0 }
-{
-    let mut i = 0;
-    while i < main.len() {
-        main[i] = 0;
-        i += 1;
-    }
-}
-
 // "main the invalid entries"; pto is 0, so the table begins at 0.
 fn put_entries(rights: &[u8], main: &mut [u8])
     requires { 4 * length rights.now ≤ length main.old }
     ensures { main.new ≡ invalid_entries rights.now ++ drop (4 * length rights.now) main.old }
 {
-    let mut x = 0;
-    while x < rights.len() {
-        words::put_word(main, 4 * x, entry(words::wide(rights[x])));
-        x += 1;
+    for (x, &right) in rights.iter().enumerate() {
+        words::put_number::<4>(main, 4 * x, entry(u32::from(right)));
     }
 }
 
@@ -37,7 +25,7 @@ pub(crate) fn fill_main(rights: &[u8], main: &mut [u8])
     ensures { main.new
         ≡ invalid_entries rights.now ++ replicate (length main.old - 4 * length rights.now) 0 }
 {
-    clear(main);
+    main.fill(0);
     put_entries(rights, main);
 }
 
@@ -47,10 +35,6 @@ pub fn fill_pages(pages: &[u8], ptl: u32, memory: &mut [u8])
     requires { (length pages.now ≡ 4096 * ptl) × (length memory.old ≡ 4096 * ptl) }
     ensures { memory.new ≡ pages.now }
 {
-    let n = ptl as usize;
-    let mut x = 0;
-    while x < n {
-        words::copy_page(pages, x, memory, x);
-        x += 1;
-    }
+    let n = 4096 * (ptl as usize);
+    memory[..n].copy_from_slice(&pages[..n]);
 }

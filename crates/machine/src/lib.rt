@@ -3,55 +3,49 @@
 // its verdict, for a caller that took it.
 #![tactic(auto)]
 
-ghost use Rattle.std.specs.Prelude.{◌≡◌};
+ghost use Rattle.std.specs.Prelude.{◌≡◌, Ok};
 ghost use Rattle.model.specs.State.{state};
 ghost use Rattle.model.specs.Calls as calls;
-ghost use Rattle.model.specs.declared.Verdict.TheVariants as verdict;
 ghost use Rattle.model.specs.Promises as promises;
 
 use host::{marks, transfer, view};
-use model::{Handed, Machine, RunAnswer, RunResult, Verdict, VirtualPage};
+use model::{Handed, Machine, Ran, RunResult, Verdict, VirtualPage};
 
 // "Run returns the stop, a detail, instructions finished, pages loaded."; "A run also reports pages copied back".
 pub fn run(m: Machine, main: &mut [u8], swap: &mut [u8], limit: u32) -> RunResult
     ensures { promises.RunPromise (state m main.old swap.old) limit result main.new swap.new }
 {
     match verdict::run_verdict(m, main, swap, limit) {
-        Verdict::Refused(r) => RunResult {
+        Err(r) => RunResult {
             machine: m,
-            answer: RunAnswer::NotRun(r),
+            answer: Err(r),
         },
-        Verdict::Granted => run_granted(m, main, swap, limit),
+        Ok(()) => run_granted(m, main, swap, limit),
     }
 }
 
 // The run of a machine that is not refused: a host that keeps the record in words writes it back only where it ran. The registers are
 // lent to the engine from an array of their own.
 pub fn run_granted(m: Machine, main: &mut [u8], swap: &mut [u8], limit: u32) -> RunResult
-    requires { calls.run_verdict (state m main.old swap.old) limit ≡ verdict.Granted }
+    requires { calls.run_verdict (state m main.old swap.old) limit ≡ Ok tt }
     ensures { promises.RunPromise (state m main.old swap.old) limit result main.new swap.new }
 {
-    let s = m.shape;
-    let b = m.book;
-    let p = m.pcs;
     let mut g = m.gpr;
-    let e = engine::go(s, b, &mut g, p, main, swap, limit);
-    let book = e.book;
-    let pcs = e.pcs;
-    let stop = e.stop;
+    let p = m.pcs;
+    let e = engine::go(m.shape, m.book, &mut g, p, main, swap, limit);
     RunResult {
         machine: Machine {
-            shape: s,
-            book: book,
+            shape: m.shape,
+            book: e.book,
             gpr: g,
-            pcs: pcs,
+            pcs: e.pcs,
         },
-        answer: RunAnswer::Ran {
-            stop: stop,
+        answer: Ok(Ran {
+            stop: e.stop,
             finished: e.finished,
             loads: e.loads,
             copied: e.copied,
-        },
+        }),
     }
 }
 
@@ -59,14 +53,9 @@ pub fn run_granted(m: Machine, main: &mut [u8], swap: &mut [u8], limit: u32) -> 
 pub fn host_read(m: Machine, main: &[u8], swap: &[u8], va: u32, into: &mut [u8]) -> Verdict
     ensures { promises.ReadPromise (state m main.now swap.now) va into.old result into.new }
 {
-    let s = m.shape;
-    match verdict::host_verdict(m, main, swap, false, va, into.len()) {
-        Verdict::Refused(r) => Verdict::Refused(r),
-        Verdict::Granted => {
-            transfer::read_bytes(s, main, swap, va, into);
-            Verdict::Granted
-        }
-    }
+    verdict::host_verdict(m, main, swap, false, va, into.len())?;
+    transfer::read_bytes(m.shape, main, swap, va, into);
+    Ok(())
 }
 
 // "host write takes one".
@@ -74,27 +63,25 @@ pub fn host_write(m: Machine, main: &mut [u8], swap: &mut [u8], va: u32, from: &
     ensures { promises.WritePromise (state m main.old swap.old) va from.now result
         main.new swap.new }
 {
-    let s = m.shape;
     match verdict::host_verdict(m, main, swap, true, va, from.len()) {
-        Verdict::Refused(r) => Handed {
+        Err(r) => Handed {
             machine: m,
-            verdict: Verdict::Refused(r),
+            verdict: Err(r),
         },
-        Verdict::Granted => {
-            let after = marks::marks_for(s, main, va, from.len(), m.book.marks);
-            let mut written = m;
-            written.book.marks = after;
-            transfer::write_bytes(s, main, swap, va, from);
+        Ok(()) => {
+            let mut machine = m;
+            machine.book.marks = marks::marks_for(m.shape, main, va, from.len(), m.book.marks);
+            transfer::write_bytes(m.shape, main, swap, va, from);
             Handed {
-                machine: written,
-                verdict: Verdict::Granted,
+                machine,
+                verdict: Ok(()),
             }
         }
     }
 }
 
 // The page view in two calls: what it answers, and the part that it hands back.
-pub fn view_answer<'a>(m: Machine, main: &'a [u8], swap: &'a [u8], page: VirtualPage) -> Verdict
+pub fn view_answer(m: Machine, main: &[u8], swap: &[u8], page: VirtualPage) -> Verdict
     ensures { promises.ViewAnswerPromise (state m main.now swap.now) page result }
 {
     verdict::view_verdict(m, main, swap, page)
@@ -104,10 +91,9 @@ pub fn view_answer<'a>(m: Machine, main: &'a [u8], swap: &'a [u8], page: Virtual
 pub fn page_view<'a>(m: Machine, main: &'a [u8], swap: &'a [u8], page: VirtualPage) -> &'a [u8]
     ensures { promises.PageViewPromise m main.entry swap.entry page result }
 {
-    let s = m.shape;
     match verdict::view_verdict(m, main, swap, page) {
-        Verdict::Refused(_) => &main[..0],
-        Verdict::Granted => view::page_part(s, main, swap, page),
+        Err(_) => &main[..0],
+        Ok(()) => view::page_part(m.shape, main, swap, page),
     }
 }
 
@@ -116,17 +102,17 @@ pub fn reply(m: Machine, register: u32, value: u32) -> Handed
     ensures { promises.ReplyPromise m register value result }
 {
     match verdict::reply_verdict(register) {
-        Verdict::Refused(r) => Handed {
+        Err(r) => Handed {
             machine: m,
-            verdict: Verdict::Refused(r),
+            verdict: Err(r),
         },
-        Verdict::Granted => {
-            let mut replied = m;
+        Ok(()) => {
+            let mut machine = m;
             let i = register as usize;
-            replied.gpr[i] = value;
+            machine.gpr[i] = value;
             Handed {
-                machine: replied,
-                verdict: Verdict::Granted,
+                machine,
+                verdict: Ok(()),
             }
         }
     }

@@ -8,14 +8,14 @@ use native.Mathlib.Omega.{arith}
 use lib.Dec.{leb, eqb}
 use lib.ListN.{length, get_or}
 use borrow.Author.Tests.{le-leb, lt-leb, leb-true, leb-false}
-use Rattle.std.specs.Prelude.{if◌then◌else◌}
+use Rattle.std.specs.Prelude.{if◌then◌else◌, Ok, Err}
 use Rattle.model.specs.Answers.{refusal_number}
 use Rattle.model.specs.declared.Refusal.{Refusal}
 use Rattle.model.specs.declared.Refusal.TheVariants.{Room, Mnemonic, Operand, Overflow}
 use Rattle.laws.specs.Over.{over}
 use Rattle.notation.specs.Text.{lines, Reading, words, bad, read_text}
 use Rattle.notation.specs.Calls.{bytes_of, AssembleOutcome, assemble_outcome, assemble_call}
-use Rattle.notation.specs.declared.AssembleAnswer.TheVariants.{Assembled, NotAssembled}
+use Rattle.notation.specs.Answers.{not_assembled}
 use Rattle.makers.specs.Refusals.{EveryGood, BadBy, assemble_number, OfAssemble, AssembleExactly, Kept}
 use Rattle.makers.proofs.Texts.{good, first_found, first_is, placed}
 use Rattle.makers.proofs.Keeping.{kept_refused, kept_result}
@@ -63,16 +63,16 @@ same_refusal a b e = sym (numbered a).0 ∙ ap refusal_of e ∙ (numbered b).0
 
 module _ (text out : List ℕ) where
   refused_call : {r : Refusal} {n column : ℕ} → read_text text ≡ bad r n column
-      → assemble_call text out ≡ assemble_outcome (NotAssembled r n column) out
+      → assemble_call text out ≡ assemble_outcome (Err (not_assembled r n column)) out
   unfolding assemble_call
   refused_call e = rw e
 
   module _ {ws : List ℕ} (e : read_text text ≡ words ws) where
-    short_call : length out < 4 * length ws → assemble_call text out ≡ assemble_outcome (NotAssembled Room 0 0) out
+    short_call : length out < 4 * length ws → assemble_call text out ≡ assemble_outcome (Err (not_assembled Room 0 0)) out
     unfolding assemble_call
     short_call h = rw e (simp lt-leb)
 
-    done_call : 4 * length ws ≤ length out → assemble_call text out ≡ assemble_outcome (Assembled (4 * length ws)) (over 0 (bytes_of ws) out)
+    done_call : 4 * length ws ≤ length out → assemble_call text out ≡ assemble_outcome (Ok (4 * length ws)) (over 0 (bytes_of ws) out)
     unfolding assemble_call
     done_call h = rw e (simp le-leb)
 

@@ -5,12 +5,12 @@ use Prim.Native.Nat.{ℕ, zero, suc, ◌+◌, ◌<◌}
 use native.Mathlib.Nat.{not-suc-le-zero}
 use native.Mathlib.Omega.{arith}
 use lib.ListN.{length, get_or}
+use Rattle.std.specs.Prelude.{Ok, Err}
 use Rattle.model.specs.declared.Refusal.{Refusal}
 use Rattle.laws.proofs.Choice.{clash}
 use Rattle.notation.specs.Line.{line_of}
 use Rattle.notation.specs.Text.{Reading, words, bad, with, judged, read_from}
-use Rattle.notation.specs.declared.Parsed.{Parsed}
-use Rattle.notation.specs.declared.Parsed.TheVariants.{Value, Wrong}
+use Rattle.notation.specs.Answers.{Parsed, wrong}
 use Rattle.makers.specs.Refusals.{HasWord, IsGood}
 
 with_words : (w : ℕ) (b : Reading) {ws : List ℕ} → with w b ≡ words ws → (rest : List ℕ) × (b ≡ words rest) × (ws ≡ w ∷ rest)
@@ -26,7 +26,7 @@ pub record EachWord (ls : List (List ℕ)) (ws : List ℕ) : Type 0 where
   pub one_each : length ws ≡ length ls
   pub of_line : (i : ℕ) → i < length ls → HasWord (get_or ls i []) (get_or ws i 0)
 
-each_more : {l : List ℕ} {ls : List (List ℕ)} {w next : ℕ} {ws : List ℕ} → line_of l ≡ Value w next → EachWord ls ws → EachWord (l ∷ ls) (w ∷ ws)
+each_more : {l : List ℕ} {ls : List (List ℕ)} {w next : ℕ} {ws : List ℕ} → line_of l ≡ Ok (w, next) → EachWord ls ws → EachWord (l ∷ ls) (w ∷ ws)
 each_more {l} {ls} {w} {next} {ws} e p = record { one_each = ap suc p.one_each; of_line = at }
   where
     at : (i : ℕ) → i < suc (length ls) → HasWord (get_or (l ∷ ls) i []) (get_or (w ∷ ws) i 0)
@@ -42,10 +42,10 @@ words_found k (l ∷ ls) ws e = pick (line_of l) refl e (words_found (k + 1) ls)
   where
     pick : (p : Parsed) → line_of l ≡ p → judged k p (read_from (k + 1) ls) ≡ words ws
         → ((rest : List ℕ) → read_from (k + 1) ls ≡ words rest → EachWord ls rest) → EachWord (l ∷ ls) ws
-    pick (Value w next) q f behind =
+    pick (Ok (w, next)) q f behind =
         let t = with_words w (read_from (k + 1) ls) f in
         rw t.2 (each_more q (behind t.0 t.1))
-    pick (Wrong r place) q f behind = clash (cc)
+    pick (Err w) q f behind = clash (cc)
 
 pub words_are : (k : ℕ) (ls : List (List ℕ)) (ws : List ℕ) → EachWord ls ws → read_from k ls ≡ words ws
 unfolding read_from
@@ -59,7 +59,7 @@ words_are k (l ∷ ls) (w ∷ ws) p =
 -- ---- the first bad line, behind i good ones
 pub record BadBehind (ls : List (List ℕ)) (r : Refusal) (i place : ℕ) : Type 0 where
   pub inside : i < length ls
-  pub wrong : line_of (get_or ls i []) ≡ Wrong r place
+  pub wrong : line_of (get_or ls i []) ≡ Err (wrong r place)
   pub before : (j : ℕ) → j < i → IsGood (get_or ls j [])
 
 behind_good : {l : List ℕ} {ls : List (List ℕ)} {r : Refusal} {i place : ℕ} → IsGood l → BadBehind ls r i place → BadBehind (l ∷ ls) r (suc i) place
@@ -84,7 +84,7 @@ bad_found k (l ∷ ls) {r} {line} {column} e = pick (line_of l) refl e (bad_foun
   where
     pick : (p : Parsed) → line_of l ≡ p → judged k p (read_from (k + 1) ls) ≡ bad r line column
         → (read_from (k + 1) ls ≡ bad r line column → BadFrom (k + 1) ls r line column) → BadFrom k (l ∷ ls) r line column
-    pick (Value w next) q f behind =
+    pick (Ok (w, next)) q f behind =
         let b = behind (with_bad w (read_from (k + 1) ls) f) in
         record {
           i = suc b.i;
@@ -93,14 +93,15 @@ bad_found k (l ∷ ls) {r} {line} {column} e = pick (line_of l) refl e (bad_foun
           from_one = b.from_one;
           behind = behind_good (w, (next, q)) b.behind;
         }
-    pick (Wrong s place) q f behind =
+    pick (Err w) q f behind =
         let z : k ≡ line = cc in
+        let is : w.refusal ≡ r = cc in
         record {
           i = 0;
-          place = place;
+          place = w.place;
           is_line = omega (arith, z);
           from_one = cc;
-          behind = record { inside = omega arith; wrong = cc; before = λ j h. absurd (not-suc-le-zero h) };
+          behind = record { inside = omega arith; wrong = q ∙ ap (λ x. Err (wrong x w.place)) is; before = λ j h. absurd (not-suc-le-zero h) };
         }
 
 pub bad_is : (k : ℕ) (ls : List (List ℕ)) (r : Refusal) (i place : ℕ) → BadBehind ls r i place → read_from k ls ≡ bad r (k + i) (place + 1)

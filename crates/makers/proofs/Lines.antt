@@ -7,6 +7,7 @@ use native.Mathlib.Omega.{arith}
 use borrow.Author.Tests.{ltb-true, lt-ltb, leb-true, le-leb, lt-leb, eqb-true}
 use lib.Dec.{ltb, eqb}
 use lib.ListN.{length, get_or, drop, get_or-append}
+use Rattle.std.specs.Prelude.{Ok, Err}
 use Rattle.model.specs.Console.{digits}
 use Rattle.model.specs.declared.Refusal.TheVariants.{Mnemonic}
 use Rattle.laws.proofs.Choice.{chosen}
@@ -16,7 +17,7 @@ use Rattle.notation.specs.Sums.{is_blank, byte_at, skipped}
 use Rattle.notation.specs.Table.{Row, rows}
 use Rattle.notation.specs.Line.{read_pieces, name_at, instruction_at, line_at, line_of}
 use Rattle.notation.specs.Listing.{pieces_text, filled, is_keyed, by_row, listed}
-use Rattle.notation.specs.declared.Parsed.TheVariants.{Value, Wrong}
+use Rattle.notation.specs.Answers.{wrong}
 use Rattle.grammar.proofs.Sums.{skip_none}
 use Rattle.makers.proofs.Every.{every, every_append, every_other, front_every, drop-behind, behind_inside}
 use Rattle.makers.proofs.Digits.{digits_every}
@@ -25,7 +26,7 @@ use Rattle.makers.proofs.Pieces.{in_line, dark_in_line, behind_blank, pieces_in_
 use Rattle.makers.proofs.Rows.{row_sound, first_of, row_found_lem}
 
 pub record Line (w : ℕ) (l : List ℕ) : Type 0 where
-  pub back : line_of l ≡ Value w (length l)
+  pub back : line_of l ≡ Ok (w, length l)
   pub one : every in_line l ≡ true
 
 -- ---- one plain number
@@ -33,7 +34,7 @@ module _ (w : ℕ) (h : w < 2 ^ 32) where
   plain_there : drop 0 (digits 9 w) ≡ digits 9 w ++ []
   plain_there = sym (append-nil (digits 9 w))
 
-  plain_back : line_of (digits 9 w) ≡ Value w (length (digits 9 w))
+  plain_back : line_of (digits 9 w) ≡ Ok (w, length (digits 9 w))
   unfolding line_of line_at
   plain_back =
       let s : List ℕ = digits 9 w in
@@ -65,19 +66,19 @@ module _ (r : Row) (m : Memᴰ r rows) (w : ℕ) where
   its_name : name_at text 0 ≡ r.name
   its_name = front_every (λ c. not (is_blank c)) r.name (32 ∷ pieces_text r.pieces w) (row_sound m 0) (unfold is_blank in refl)
 
-  named_back : line_of text ≡ Value (filled r.pieces r.base w) (length text)
+  named_back : line_of text ≡ Ok (filled r.pieces r.base w, length text)
   unfolding line_of line_at instruction_at
   named_back =
       let n : ℕ = 0 + length r.name in
       let p : skipped text 0 ≡ 0 = skip_none text 0 (no_blank (byte_at text 0) (omega (arith, first_letter))) in
       rw (p, behind_digits (byte_at text 0) first_letter, its_name)
-      (row_found_lem (λ q. read_pieces text q.pieces q.base n) (Wrong Mnemonic 0) m
+      (row_found_lem (λ q. read_pieces text q.pieces q.base n) (Err (wrong Mnemonic 0)) m
       ∙ behind_blank text w r.pieces r.base n (leb-true 1 (length r.pieces) (row_sound m 3)) (row_sound m 4)
       (behind_inside text 0 r.name _ refl (omega arith)) (drop-behind text 0 r.name _ refl))
 
   named : filled r.pieces r.base w ≡ w → Line w text
   named e = record {
-    back = named_back ∙ ap (λ (v : ℕ). Value v (length text)) e;
+    back = named_back ∙ ap (λ (v : ℕ). Ok (v, length text)) e;
     one = every_append in_line r.name (32 ∷ pieces_text r.pieces w) (row_sound m 1)
         (unfold every in_line in (pieces_in_line r.pieces w (row_sound m 4)));
   }

@@ -8,11 +8,11 @@ use native.Mathlib.Omega.{arith}
 use lib.Dec.{leb, eqb}
 use lib.ListN.{length}
 use borrow.Author.Tests.{leb-true, leb-false, eqb-true, eqb-false}
+use Rattle.std.specs.Prelude.{Ok, Err}
 use Rattle.model.specs.declared.Refusal.TheVariants.{Bound, Room}
 use Rattle.laws.specs.Over.{over}
 use Rattle.notation.specs.Listing.{listing}
 use Rattle.notation.specs.Calls.{words_of, ListOutcome, list_outcome, list_call}
-use Rattle.notation.specs.declared.ListAnswer.TheVariants.{Listed, NotListed}
 use Rattle.makers.specs.Refusals.{listed_length, ListExactly, Kept}
 use Rattle.makers.proofs.Keeping.{kept_refused, kept_result}
 
@@ -21,10 +21,10 @@ number o = o.numbers.verdict.refused
 
 -- ---- the three ways of `list`
 data Told (bytes out : List ℕ) : Type 0 where
-  odd : ¬ (length bytes % 4 ≡ 0) → list_call bytes out ≡ list_outcome (NotListed Bound) out → Told bytes out
-  short : length bytes % 4 ≡ 0 → length out < listed_length bytes → list_call bytes out ≡ list_outcome (NotListed Room) out → Told bytes out
+  odd : ¬ (length bytes % 4 ≡ 0) → list_call bytes out ≡ list_outcome (Err Bound) out → Told bytes out
+  short : length bytes % 4 ≡ 0 → length out < listed_length bytes → list_call bytes out ≡ list_outcome (Err Room) out → Told bytes out
   done : length bytes % 4 ≡ 0 → listed_length bytes ≤ length out
-      → list_call bytes out ≡ list_outcome (Listed (listed_length bytes)) (over 0 (listing (words_of bytes)) out) → Told bytes out
+      → list_call bytes out ≡ list_outcome (Ok (listed_length bytes)) (over 0 (listing (words_of bytes)) out) → Told bytes out
 
 module _ (bytes out : List ℕ) where
   told : Told bytes out

@@ -7,34 +7,33 @@ use mathlib.Core.List.{List, [], ◌∷◌, Memᴰ}
 use Prim.Native.Nat.{ℕ, ◌+◌, ◌*◌, ◌≤◌}
 use lib.Dec.{leb, ltb, eqb}
 use lib.ListN.{length}
-use Rattle.std.specs.Prelude.{if◌then◌else◌}
+use Rattle.std.specs.Prelude.{if◌then◌else◌, Ok, Err}
 use Rattle.model.specs.declared.Refusal.TheVariants.{Mnemonic, Operand, Overflow}
 use Rattle.laws.proofs.Choice.{clash, chosen}
 use Rattle.model.specs.Bytes.{same}
 use Rattle.text.specs.Reading.{is_digit}
 use Rattle.laws.proofs.Bytes.{same_equal, equal_same}
 use Rattle.text.specs.Reading as reading
-use Rattle.text.specs.declared.reading.Part.{Part}
-use Rattle.text.specs.declared.reading.Part.TheVariants.{Number, NotNumber}
+use Rattle.std.specs.Prelude.{Result, Ok, Err}
+use Rattle.text.specs.declared.reading.Number.{Number}
 use Rattle.notation.specs.Table.{Row, rows, first_row}
 use Rattle.notation.specs.Sums.{byte_at, skipped, and_then, numbered, number_at, sum_at}
 use Rattle.notation.specs.Line.{below, fitted, operand_at, read_piece, ended, read_pieces, name_at, is_named, instruction_at, plain_at, line_at, line_of}
 use Rattle.notation.specs.declared.Piece.{Piece}
 use Rattle.notation.specs.declared.Piece.TheVariants.{Mark, Field}
-use Rattle.notation.specs.declared.Parsed.{Parsed}
-use Rattle.notation.specs.declared.Parsed.TheVariants.{Value, Wrong}
+use Rattle.notation.specs.Answers.{Parsed, wrong}
 use Rattle.grammar.proofs.Lies.{Lies}
 use Rattle.grammar.proofs.Sums.{sum_lies}
 use Rattle.makers.specs.Refusals.{Unknown}
 
 -- ---- what is refused for something else, or is good
 abbrev Otherwise : Parsed → Type 0
-Otherwise (Value v n) = Unit
-Otherwise (Wrong r p) = ¬ (r ≡ Mnemonic)
+Otherwise (Ok (v, n)) = Unit
+Otherwise (Err w) = ¬ (w.refusal ≡ Mnemonic)
 
 then_otherwise : (p : Parsed) (onto : ℕ → ℕ → Parsed) → Otherwise p → ((v n : ℕ) → Otherwise (onto v n)) → Otherwise (and_then p onto)
-then_otherwise (Value v n) onto h f = f v n
-then_otherwise (Wrong r p) onto h f = h
+then_otherwise (Ok (v, n)) onto h f = f v n
+then_otherwise (Err w) onto h f = h
 
 no_operand : ¬ (Operand ≡ Mnemonic)
 no_operand e = clash (cc)
@@ -43,8 +42,8 @@ no_overflow : ¬ (Overflow ≡ Mnemonic)
 no_overflow e = clash (cc)
 
 lies_otherwise : (H : Type 0) (at end : ℕ) (p : Parsed) → Lies H at end p → Otherwise p
-lies_otherwise H at end (Value v n) h = tt
-lies_otherwise H at end (Wrong r p) h = λ e. ⊎_elim (λ q. no_operand (sym q ∙ e)) (λ q. no_overflow (sym q ∙ e)) h.1
+lies_otherwise H at end (Ok (v, n)) h = tt
+lies_otherwise H at end (Err w) h = λ e. ⊎_elim (λ q. no_operand (sym q ∙ e)) (λ q. no_overflow (sym q ∙ e)) h.1
 
 module _ (s : List ℕ) where
   operand_otherwise : (at size : ℕ) (signed : Bool) → Otherwise (operand_at s at size signed)
@@ -57,7 +56,7 @@ module _ (s : List ℕ) where
   unfolding read_piece
   piece_otherwise (Mark b) w n = chosen Otherwise (eqb (byte_at s (skipped s n)) b) (λ _. tt) (λ _. no_operand)
   piece_otherwise (Field scale size signed) w n =
-      then_otherwise (operand_at s (skipped s n) size signed) (λ v next. Value (w + v * scale) next)
+      then_otherwise (operand_at s (skipped s n) size signed) (λ v next. Ok (w + v * scale, next))
       (operand_otherwise (skipped s n) size signed) (λ v m. tt)
 
   ended_otherwise : (w n : ℕ) → Otherwise (ended s w n)
@@ -70,9 +69,9 @@ module _ (s : List ℕ) where
   pieces_otherwise (p ∷ ps) w n =
       then_otherwise (read_piece s p w n) (read_pieces s ps) (piece_otherwise p w n) (λ v m. pieces_otherwise ps v m)
 
-  numbered_otherwise : (at : ℕ) (p : Part) → Otherwise (numbered at p)
-  numbered_otherwise at (Number v n) = tt
-  numbered_otherwise at (NotNumber column) = no_overflow
+  numbered_otherwise : (at : ℕ) (p : Result Number ℕ) → Otherwise (numbered at p)
+  numbered_otherwise at (Ok n) = tt
+  numbered_otherwise at (Err column) = no_overflow
 
   plain_otherwise : (at : ℕ) → Otherwise (plain_at s at)
   unfolding number_at
@@ -85,27 +84,31 @@ module _ (s : List ℕ) where
 abbrev Unnamed : List ℕ → List Row → Type 0
 Unnamed name rs = (row : Row) → Memᴰ row rs → ¬ (row.name ≡ name)
 
+place_of : Parsed → ℕ
+place_of (Ok (v, n)) = n
+place_of (Err w) = w.place
+
 module _ (name : List ℕ) (made : Row → Parsed) (at : ℕ) where
   -- no row has the name: none is met
-  none_named : (rs : List Row) → Unnamed name rs → first_row (is_named name) made (Wrong Mnemonic at) rs ≡ Wrong Mnemonic at
+  none_named : (rs : List Row) → Unnamed name rs → first_row (is_named name) made (Err (wrong Mnemonic at)) rs ≡ Err (wrong Mnemonic at)
   unfolding first_row
   none_named [] f = refl
   none_named (r ∷ rs) f =
-      chosen (λ p. p ≡ Wrong Mnemonic at) (is_named name r) (λ t. absurd (f r (Memᴰ.head refl) (same_equal r.name name t)))
+      chosen (λ p. p ≡ Err (wrong Mnemonic at)) (is_named name r) (λ t. absurd (f r (Memᴰ.head refl) (same_equal r.name name t)))
       (λ _. none_named rs (λ row m. f row (Memᴰ.tail m)))
 
   module _ (other : (r : Row) → Otherwise (made r)) where
     -- only a name that no row has is refused for itself
-    refused_named : (rs : List Row) (p : ℕ) → first_row (is_named name) made (Wrong Mnemonic at) rs ≡ Wrong Mnemonic p → (p ≡ at) × Unnamed name rs
-    unfolding first_row
-    refused_named [] p e = (cc, λ row m. absurd (Memᴰ.not-nil m))
+    refused_named : (rs : List Row) (p : ℕ) → first_row (is_named name) made (Err (wrong Mnemonic at)) rs ≡ Err (wrong Mnemonic p) → (p ≡ at) × Unnamed name rs
+    unfolding first_row place_of
+    refused_named [] p e = (sym (ap place_of e), λ row m. absurd (Memᴰ.not-nil m))
     refused_named (r ∷ rs) p e = pick (is_named name r) refl e (refused_named rs p)
       where
         behind : Parsed
-        behind = first_row (is_named name) made (Wrong Mnemonic at) rs
+        behind = first_row (is_named name) made (Err (wrong Mnemonic at)) rs
 
-        pick : (t : Bool) → is_named name r ≡ t → (if t then made r else behind) ≡ Wrong Mnemonic p
-            → (behind ≡ Wrong Mnemonic p → (p ≡ at) × Unnamed name rs) → (p ≡ at) × Unnamed name (r ∷ rs)
+        pick : (t : Bool) → is_named name r ≡ t → (if t then made r else behind) ≡ Err (wrong Mnemonic p)
+            → (behind ≡ Err (wrong Mnemonic p) → (p ≡ at) × Unnamed name rs) → (p ≡ at) × Unnamed name (r ∷ rs)
         pick true t f ih = absurd (subst Otherwise f (other r) refl)
         pick false t f ih = (
           (ih f).0,
@@ -123,22 +126,22 @@ module _ (l : List ℕ) (p : ℕ) where
   abbrev by_row : Row → Parsed
   by_row r = read_pieces l r.pieces r.base (start + length (name_at l start))
 
-  found : line_of l ≡ Wrong Mnemonic p → Unknown l p
+  found : line_of l ≡ Err (wrong Mnemonic p) → Unknown l p
   unfolding line_of line_at instruction_at
   found e = pick (is_digit (byte_at l start)) refl e
     where
-      pick : (t : Bool) → is_digit (byte_at l start) ≡ t → (if t then plain_at l start else instruction_at l start) ≡ Wrong Mnemonic p → Unknown l p
+      pick : (t : Bool) → is_digit (byte_at l start) ≡ t → (if t then plain_at l start else instruction_at l start) ≡ Err (wrong Mnemonic p) → Unknown l p
       pick true t f = absurd (subst Otherwise f (plain_otherwise l start) refl)
       pick false t f =
           let n = refused_named (name_at l start) by_row start (λ r. pieces_otherwise l r.pieces r.base (start + length (name_at l start))) rows p f in
           record { first = n.0; no_digit = rw n.0 t; no_row = rw n.0 n.1 }
 
-  is : Unknown l p → line_of l ≡ Wrong Mnemonic p
+  is : Unknown l p → line_of l ≡ Err (wrong Mnemonic p)
   unfolding line_of line_at instruction_at
   is u =
       let digit : is_digit (byte_at l start) ≡ false = rw u.first at u.no_digit in
       let none : Unnamed (name_at l start) rows = rw u.first at u.no_row in
-      rw digit (none_named (name_at l start) by_row start rows none ∙ ap (λ n. Wrong Mnemonic n) (sym u.first))
+      rw digit (none_named (name_at l start) by_row start rows none ∙ ap (λ n. Err (wrong Mnemonic n)) (sym u.first))
 
-  pub unknown : (line_of l ≡ Wrong Mnemonic p) ↔ Unknown l p
+  pub unknown : (line_of l ≡ Err (wrong Mnemonic p)) ↔ Unknown l p
   unknown = (found, is)

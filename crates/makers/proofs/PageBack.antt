@@ -8,6 +8,7 @@ use borrow.Author.Tests.{not-true, le-leb, eq-eqb}
 use lib.Dec.{eqb}
 use lib.ListN.{length, get_or, drop}
 use lib.Seq.{take-append_seam}
+use Rattle.std.specs.Prelude.{Ok}
 use Rattle.model.specs.Choice.{list_below}
 use Rattle.model.specs.Bytes.{number}
 use Rattle.laws.specs.Over.{over}
@@ -16,7 +17,6 @@ use Rattle.laws.proofs.Bytes.{number_below}
 use Rattle.notation.specs.Text.{lines, words, read_from, read_text}
 use Rattle.notation.specs.Listing.{listed, listing}
 use Rattle.notation.specs.Calls.{bytes_of, bytes_of_word, words_of, assemble_outcome, assemble_call, list_call}
-use Rattle.notation.specs.declared.AssembleAnswer.TheVariants.{Assembled}
 use Rattle.grammar.proofs.Short.{short}
 use Rattle.makers.specs.PageBack.{Below, CallBack, PageBack}
 use Rattle.makers.proofs.Every.{every}
@@ -102,7 +102,7 @@ module _ (bytes again : List ℕ) (h : Below 256 bytes) (e : length bytes % 4 �
   unfolding words_of
   as_many = omega (arith, length-below (length bytes / 4) (λ i. number 4 bytes (4 * i)))
 
-  assembled : assemble_call (listing (words_of bytes)) again ≡ assemble_outcome (Assembled (length bytes)) (over 0 bytes again)
+  assembled : assemble_call (listing (words_of bytes)) again ≡ assemble_outcome (Ok (length bytes)) (over 0 bytes again)
   unfolding assemble_call
   assembled =
       rw (words_back (words_of bytes) (words_below bytes h), as_many, bytes_back bytes h e, le-leb (length bytes) (length again) fits)

@@ -8,6 +8,7 @@ use native.Mathlib.Omega.{arith}
 use borrow.Author.Tests.{leb-true, ltb-true, lt-ltb, eqb-true, eq-eqb, ne_eqb}
 use lib.Dec.{leb, ltb, eqb}
 use lib.ListN.{length, get_or, drop, length-drop}
+use Rattle.std.specs.Prelude.{Ok}
 use Rattle.model.specs.Choice.{passes}
 use Rattle.model.specs.Console.{digits}
 use Rattle.laws.proofs.Choice.{and_left, and_right, and_both, pass, chosen}
@@ -17,8 +18,7 @@ use Rattle.notation.specs.Line.{read_piece, read_pieces, ended}
 use Rattle.notation.specs.Listing.{field_of, value_text, piece_text, pieces_text, filled}
 use Rattle.notation.specs.declared.Piece.{Piece}
 use Rattle.notation.specs.declared.Piece.TheVariants.{Mark, Field}
-use Rattle.notation.specs.declared.Parsed.{Parsed}
-use Rattle.notation.specs.declared.Parsed.TheVariants.{Value}
+use Rattle.notation.specs.Answers.{Parsed}
 use Rattle.grammar.proofs.Sums.{skip_none, skip_more}
 use Rattle.makers.proofs.Every.{every, every_append, every_other, first_every, byte_there, drop-behind, behind_inside}
 use Rattle.makers.proofs.Digits.{digits_every, digits_some}
@@ -100,15 +100,15 @@ module _ (size x : ℕ) (z : Halves size) (inside : x < size) where
 
 -- ---- read back
 module _ (s : List ℕ) (w : ℕ) where
-  pub none_there : (base n : ℕ) → n ≤ length s → drop n s ≡ [] → ended s base n ≡ Value base (length s)
+  pub none_there : (base n : ℕ) → n ≤ length s → drop n s ≡ [] → ended s base n ≡ Ok (base, length s)
   unfolding ended
   none_there base n h e =
       let q : n ≡ length s = omega (arith, sym (length-drop n s) ∙ ap length e) in
       let p : skipped s n ≡ n = skip_none s n (ap is_blank (byte_there s n [] e) ∙ (unfold is_blank in refl)) in
-      rw (p, eq-eqb n (length s) q) (ap (Value base) q)
+      rw (p, eq-eqb n (length s) q) (ap (λ (m : ℕ). Ok (base, m)) q)
 
   pub pieces_there : (ps : List Piece) (base n : ℕ) → readable ps ≡ true → n ≤ length s → drop n s ≡ pieces_text ps w
-      → read_pieces s ps base n ≡ Value (filled ps base w) (length s)
+      → read_pieces s ps base n ≡ Ok (filled ps base w, length s)
   unfolding readable read_pieces read_piece pieces_text piece_text filled
   pieces_there [] base n ok h e = none_there base n h e
   pieces_there (Mark b ∷ ps) base n ok h e =
@@ -136,7 +136,7 @@ module _ (s : List ℕ) (w : ℕ) where
 
   -- behind one blank
   pub behind_blank : (ps : List Piece) (base n : ℕ) → 1 ≤ length ps → readable ps ≡ true → n ≤ length s → drop n s ≡ 32 ∷ pieces_text ps w
-      → read_pieces s ps base n ≡ Value (filled ps base w) (length s)
+      → read_pieces s ps base n ≡ Ok (filled ps base w, length s)
   unfolding read_pieces
   behind_blank [] base n some ok h e = absurd (not-suc-le-zero some)
   behind_blank (p ∷ ps) base n some ok h e =

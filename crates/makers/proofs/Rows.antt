@@ -4,7 +4,7 @@ use mathlib.Core.Path.{◌≡◌, refl}
 use mathlib.Core.List.{List, [], ◌∷◌, Memᴰ}
 use Prim.Native.Nat.{ℕ}
 use borrow.Author.Tests.{not-true}
-use lib.Dec.{leb, ltb, eqb}
+use lib.Dec.{leb, ltb}
 use lib.ListN.{length, get_or}
 use Rattle.model.specs.Choice.{passes}
 use Rattle.laws.proofs.Choice.{and_left, and_right, pass, chosen}

@@ -1,6 +1,6 @@
 -- What the makers' two calls refuse, exactly: which line is the first bad one and what its refusal and its place can be; which number each
 -- call answers when; and what it leaves of the lent output. The theorem is `refusals` of proofs/Refusals.
-use Rattle.std.specs.Prelude.{◌≡◌, ◌↔◌, ◌⊎◌, false, ℕ, ◌+◌, ◌-◌, ◌*◌, ◌%◌, ◌≤◌, ◌<◌, length, get_or, take, drop}
+use Rattle.std.specs.Prelude.{◌≡◌, ◌↔◌, ◌⊎◌, false, ℕ, ◌+◌, ◌-◌, ◌*◌, ◌%◌, ◌≤◌, ◌<◌, length, get_or, take, drop, Ok, Err}
 use mathlib.Core.List.{List, [], Memᴰ}
 use Rattle.model.specs.declared.Refusal.{Refusal}
 use Rattle.model.specs.declared.Refusal.TheVariants.{Mnemonic, Operand, Overflow}
@@ -11,12 +11,12 @@ use Rattle.notation.specs.Line.{name_at, line_of}
 use Rattle.notation.specs.Text.{lines, words, bad, read_text}
 use Rattle.notation.specs.Listing.{listing}
 use Rattle.notation.specs.Calls.{words_of, assemble_call, list_call}
-use Rattle.notation.specs.declared.Parsed.TheVariants.{Value, Wrong}
+use Rattle.notation.specs.Answers.{wrong}
 
 -- ---- a line
 -- it is good, and this is its word
 abbrev pub HasWord : List ℕ → ℕ → Type 0
-HasWord l w = (next : ℕ) × (line_of l ≡ Value w next)
+HasWord l w = (next : ℕ) × (line_of l ≡ Ok (w, next))
 
 abbrev pub IsGood : List ℕ → Type 0
 IsGood l = (w : ℕ) × HasWord l w
@@ -48,7 +48,7 @@ pub record Words (text ws : List ℕ) : Type 0 where
 pub record FirstBad (text : List ℕ) (r : Refusal) (n column : ℕ) : Type 0 where
   pub is_line : IsLine text n
   pub place : ℕ
-  pub wrong : line_of (line text n) ≡ Wrong r place
+  pub wrong : line_of (line text n) ≡ Err (wrong r place)
   pub from_one : column ≡ place + 1
   pub before : (k : ℕ) → 1 ≤ k → k < n → IsGood (line text k)
 
@@ -99,7 +99,7 @@ pub record Kept (number n : ℕ) (out after : List ℕ) : Type 0 where
   pub long : length after ≡ length out
 
 pub record Refusals : Type 0 where
-  pub unknown : (l : List ℕ) (p : ℕ) → (line_of l ≡ Wrong Mnemonic p) ↔ Unknown l p
+  pub unknown : (l : List ℕ) (p : ℕ) → (line_of l ≡ Err (wrong Mnemonic p)) ↔ Unknown l p
   pub good : (text ws : List ℕ) → (read_text text ≡ words ws) ↔ Words text ws
   pub first_bad : (text : List ℕ) (r : Refusal) (n column : ℕ) → (read_text text ≡ bad r n column) ↔ FirstBad text r n column
   pub placed : (text : List ℕ) (r : Refusal) (n column : ℕ) → read_text text ≡ bad r n column → Placed (line text n) r column

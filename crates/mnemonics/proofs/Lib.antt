@@ -1,5 +1,5 @@
--- The laws, each module over those before it.
-pub mod Packing
-pub mod Rows
-pub mod Tabled
-pub mod Unpacking
+-- The laws of the two look-ups, and those for their callers.
+mod Search
+mod Formed
+pub mod Found
+pub mod Field

@@ -1,15 +1,11 @@
 -- Section "Calls and their refusals": this paper's numbers and values for each case of an answer.
-use Rattle.std.specs.Prelude.{ℕ}
+use Rattle.std.specs.Prelude.{ℕ, Result, Ok, Err, ⊤}
 use Rattle.model.specs.declared.Stop.{Stop}
 use Rattle.model.specs.declared.Stop.TheVariants.{Limit, Trap, IllegalMemory, Misaligned, IllegalInstruction}
 use Rattle.model.specs.declared.Refusal.{Refusal}
 use Rattle.model.specs.declared.Refusal.TheVariants.{Bound, Unsound, Rights, TooMuch, Edition, Format, Room, Mnemonic, Operand, Overflow}
-use Rattle.model.specs.declared.Verdict.{Verdict}
-use Rattle.model.specs.declared.Verdict.TheVariants.{Granted, Refused}
-use Rattle.model.specs.declared.RunAnswer.{RunAnswer}
-use Rattle.model.specs.declared.RunAnswer.TheVariants.{Ran, NotRun}
-use Rattle.model.specs.declared.ImageAnswer.{ImageAnswer}
-use Rattle.model.specs.declared.ImageAnswer.TheVariants.{Image, NotImage}
+use Rattle.model.specs.declared.Ran.{Ran}
+use Rattle.model.specs.declared.Written.{Written}
 
 -- "Stops: 0 limit used up, 1 trap, 2 illegal memory and 3 misaligned, 4 illegal instruction"
 abbrev pub stop_number : Stop → ℕ
@@ -41,13 +37,23 @@ refusal_number Mnemonic = 8
 refusal_number Operand = 9
 refusal_number Overflow = 10
 
+-- the answers: of a call that only does its work or refuses it, of a run, of the reader of console images
+abbrev pub Verdict : Type 0
+Verdict = Result ⊤ Refusal
+
+abbrev pub RunAnswer : Type 0
+RunAnswer = Result Ran Refusal
+
+abbrev pub ImageAnswer : Type 0
+ImageAnswer = Result Written Refusal
+
 -- what every call answers first: the number of its refusal, 0 where nothing is refused. Only `verdict_numbers` makes one.
 pub record VerdictNumbers : Type 0 where
   pub refused : ℕ
 
 abbrev pub verdict_numbers : Verdict → VerdictNumbers
-verdict_numbers Granted = record { refused = 0 }
-verdict_numbers (Refused r) = record { refused = refusal_number r }
+verdict_numbers (Ok tt) = record { refused = 0 }
+verdict_numbers (Err r) = record { refused = refusal_number r }
 
 -- "Run returns the stop, a detail, instructions finished, pages loaded."; "A run also reports pages copied back"
 pub record RunNumbers : Type 0 where
@@ -60,15 +66,15 @@ pub record RunNumbers : Type 0 where
 
 -- "A refusal returns its number, zero for every other number"
 abbrev pub run_numbers : RunAnswer → RunNumbers
-run_numbers (Ran s finished loads copied) = record {
-  verdict = verdict_numbers Granted;
-  stop = stop_number s;
-  detail = stop_detail s;
-  finished = finished;
-  loads = loads;
-  copied = copied;
+run_numbers (Ok r) = record {
+  verdict = verdict_numbers (Ok tt);
+  stop = stop_number r.stop;
+  detail = stop_detail r.stop;
+  finished = r.finished;
+  loads = r.loads;
+  copied = r.copied;
 }
-run_numbers (NotRun r) = record { verdict = verdict_numbers (Refused r); stop = 0; detail = 0; finished = 0; loads = 0; copied = 0 }
+run_numbers (Err r) = record { verdict = verdict_numbers (Err r); stop = 0; detail = 0; finished = 0; loads = 0; copied = 0 }
 
 -- "with them come ptl, start and frames as written"
 pub record ImageNumbers : Type 0 where
@@ -78,5 +84,5 @@ pub record ImageNumbers : Type 0 where
   pub frames : ℕ
 
 abbrev pub image_numbers : ImageAnswer → ImageNumbers
-image_numbers (Image ptl start frames) = record { verdict = verdict_numbers Granted; ptl = ptl; start = start; frames = frames }
-image_numbers (NotImage r) = record { verdict = verdict_numbers (Refused r); ptl = 0; start = 0; frames = 0 }
+image_numbers (Ok w) = record { verdict = verdict_numbers (Ok tt); ptl = w.ptl; start = w.start; frames = w.frames }
+image_numbers (Err r) = record { verdict = verdict_numbers (Err r); ptl = 0; start = 0; frames = 0 }

@@ -1,13 +1,11 @@
 -- Section "Console images", its end: what the program writes, byte by byte, for what it reads; and what it leaves in the memories that
 -- it is lent.
-use Rattle.std.specs.Prelude.{List, [], ◌∷◌, ◌++◌, ℕ, zero, suc, ◌+◌, ◌*◌, ◌/◌, ◌%◌, eqb, leb, ltb, length, take, drop, replicate, if◌then◌else◌}
+use Rattle.std.specs.Prelude.{List, [], ◌∷◌, ◌++◌, ℕ, zero, suc, ◌+◌, ◌*◌, ◌/◌, ◌%◌, eqb, leb, ltb, length, take, drop, replicate, if◌then◌else◌, Ok, Err}
 use Rattle.model.specs.State.{Memory}
-use Rattle.model.specs.Answers.{refusal_number, VerdictNumbers, RunNumbers}
+use Rattle.model.specs.Answers.{refusal_number, VerdictNumbers, RunNumbers, Verdict}
 use Rattle.model.specs.Calls.{unless, RunOutcome, run_call, StateOutcome}
 use Rattle.model.specs.Image.{ptl_of, image_verdict, load_call}
 use Rattle.model.specs.declared.Refusal.TheVariants.{Room}
-use Rattle.model.specs.declared.Verdict.{Verdict}
-use Rattle.model.specs.declared.Verdict.TheVariants.{Granted, Refused}
 
 -- the decimal digits of x, of which there are at most n + 1
 unfoldable pub digits : ℕ → ℕ → List ℕ
@@ -62,12 +60,12 @@ loaded_lines l = or_refused l.verdict (run_lines (run_call l.state 1000))
 
 -- "uses five main pages": what stood in the lent bytes before does not matter, loading writes them all
 abbrev pub image_lines : Verdict → List ℕ → List ℕ
-image_lines Granted l = loaded_lines (load_call l (record { main = replicate 20480 0; swap = replicate (4096 * ptl_of l) 0 }))
-image_lines (Refused r) l = refused_line (refusal_number r)
+image_lines (Ok tt) l = loaded_lines (load_call l (record { main = replicate 20480 0; swap = replicate (4096 * ptl_of l) 0 }))
+image_lines (Err r) l = refused_line (refusal_number r)
 
 -- "A longer input prints `refused 7` by its length alone. Otherwise a ptl above 4 prints `refused 7`, unless 5 or 6 applies."
 unfoldable pub console_verdict : List ℕ → Verdict
-console_verdict input = unless (leb (length input) 17436) Room (image_verdict input (unless (leb (ptl_of input) 4) Room Granted))
+console_verdict input = unless (leb (length input) 17436) Room (image_verdict input (unless (leb (ptl_of input) 4) Room (Ok tt)))
 
 unfoldable pub console_text : List ℕ → List ℕ
 console_text input = image_lines (console_verdict input) input
@@ -86,8 +84,8 @@ abbrev pub with_others : ℕ → Memory → Memory → Memory
 with_others n left m = record { main = left.main; swap = left.swap ++ drop (4096 * n) m.swap }
 
 abbrev pub image_memory : Verdict → List ℕ → Memory → Memory
-image_memory Granted l m = with_others (ptl_of l) (loaded_memory (load_call l (lent_pages (ptl_of l) m))) m
-image_memory (Refused r) l m = m
+image_memory (Ok tt) l m = with_others (ptl_of l) (loaded_memory (load_call l (lent_pages (ptl_of l) m))) m
+image_memory (Err r) l m = m
 
 unfoldable pub console_memory : List ℕ → Memory → Memory
 console_memory input m = image_memory (console_verdict input) input m

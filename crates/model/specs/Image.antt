@@ -1,18 +1,15 @@
 -- Section "Console images": the format, read from the end; the reader's complete outcome; and loading's.
-use Rattle.std.specs.Prelude.{Bool, ◌&&◌, ◌||◌, List, [], ◌∷◌, ◌++◌, ℕ, ◌+◌, ◌-◌, ◌*◌, ◌/◌, ◌%◌, eqb, leb, length, get_or, take, drop, replicate, if◌then◌else◌}
+use Rattle.std.specs.Prelude.{Bool, ◌&&◌, ◌||◌, List, [], ◌∷◌, ◌++◌, ℕ, ◌+◌, ◌-◌, ◌*◌, ◌/◌, ◌%◌, eqb, leb, length, get_or, take, drop, replicate, if◌then◌else◌, Ok, Err}
 use Rattle.model.specs.Choice.{passes, every_below}
 use Rattle.model.specs.Words.{aligned, low, field, plus}
 use Rattle.model.specs.Bytes.{number}
 use Rattle.model.specs.Frames.{empty_book}
 use Rattle.model.specs.State.{Memory, State}
-use Rattle.model.specs.Answers.{verdict_numbers, ImageNumbers, image_numbers}
+use Rattle.model.specs.Answers.{verdict_numbers, ImageNumbers, image_numbers, Verdict}
 use Rattle.model.specs.Calls.{unless, StateOutcome}
 use Rattle.model.specs.declared.Shape.{Shape}
 use Rattle.model.specs.declared.Machine.{Machine}
 use Rattle.model.specs.declared.Refusal.TheVariants.{Edition, Format, Room}
-use Rattle.model.specs.declared.Verdict.{Verdict}
-use Rattle.model.specs.declared.Verdict.TheVariants.{Granted, Refused}
-use Rattle.model.specs.declared.ImageAnswer.TheVariants.{Image, NotImage}
 
 -- "The last 24 bytes are six u32: distance from the file's end back to the rights, the same to the pages, ptl, start, frames,
 -- edition": number k of these
@@ -71,12 +68,12 @@ pub record ImageOutcome : Type 0 where
   pub rights : List ℕ
 
 abbrev pub image_by : Verdict → List ℕ → ImageOutcome
-image_by Granted l =
-    record { numbers = image_numbers (Image (ptl_of l) (start_of l) (frames_of l)); pages = pages_of l; rights = rights_of l }
-image_by (Refused r) l = record { numbers = image_numbers (NotImage r); pages = []; rights = [] }
+image_by (Ok tt) l =
+    record { numbers = image_numbers (Ok (record { ptl = ptl_of l; start = start_of l; frames = frames_of l })); pages = pages_of l; rights = rights_of l }
+image_by (Err r) l = record { numbers = image_numbers (Err r); pages = []; rights = [] }
 
 unfoldable pub image_call : List ℕ → ImageOutcome
-image_call l = image_by (image_verdict l Granted) l
+image_call l = image_by (image_verdict l (Ok tt)) l
 
 -- ---- loading
 -- "A zero in the image's frames field shall mean 4."
@@ -98,7 +95,7 @@ room frames ptl main_length swap_length = passes (
 
 unfoldable pub load_verdict : List ℕ → Memory → Verdict
 load_verdict l m =
-    image_verdict l (unless (room (frames_of l) (ptl_of l) (length m.main) (length m.swap)) Room Granted)
+    image_verdict l (unless (room (frames_of l) (ptl_of l) (length m.main) (length m.swap)) Room (Ok tt))
 
 -- "main the invalid entries (ppx 0, r and w from the rights)": the entry by a rights byte, and all of them as bytes
 abbrev pub invalid_entry : ℕ → ℕ
@@ -135,8 +132,8 @@ zero_machine = record {
 }
 
 abbrev pub load_by : Verdict → List ℕ → Memory → StateOutcome
-load_by Granted l m = record { verdict = verdict_numbers Granted; state = fresh l (length m.main) }
-load_by (Refused r) l m = record { verdict = verdict_numbers (Refused r); state = record { machine = zero_machine; memory = m } }
+load_by (Ok tt) l m = record { verdict = verdict_numbers (Ok tt); state = fresh l (length m.main) }
+load_by (Err r) l m = record { verdict = verdict_numbers (Err r); state = record { machine = zero_machine; memory = m } }
 
 unfoldable pub load_call : List ℕ → Memory → StateOutcome
 load_call l m = load_by (load_verdict l m) l m

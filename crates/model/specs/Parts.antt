@@ -1,7 +1,8 @@
 -- Parts of a lent slice, each the slice's own bytes from a place of it on: "a part of the file's own bytes", "from main memory or from
 -- swap as its entry says".
-use Rattle.std.specs.Prelude.{◌≡◌, List, [], ℕ, ◌+◌, length, take, drop, if◌then◌else◌}
+use Rattle.std.specs.Prelude.{◌≡◌, List, [], ℕ, ◌+◌, length, take, drop, if◌then◌else◌, Ok, Err}
 use Rattle.std.specs.Borrow.{Bor}
+use Rattle.model.specs.Answers.{Verdict}
 use Rattle.model.specs.Pages.{main_at, swap_of, swap_at}
 use Rattle.model.specs.Table.{entry, ppx, valid}
 use Rattle.model.specs.State.{Memory, State, state}
@@ -10,8 +11,6 @@ use Rattle.model.specs.Image.{rights_place, pages_place, image_verdict, image_ca
 use Rattle.model.specs.declared.Shape.{Shape}
 use Rattle.model.specs.declared.Machine.{Machine}
 use Rattle.model.specs.declared.VirtualPage.{VirtualPage}
-use Rattle.model.specs.declared.Verdict.{Verdict}
-use Rattle.model.specs.declared.Verdict.TheVariants.{Granted, Refused}
 
 -- the byte of a slice where a part begins, and the part's bytes
 pub record Part : Type 0 where
@@ -34,15 +33,15 @@ abbrev pub no_part : Part
 no_part = record { place = 0; bytes = [] }
 
 abbrev pub if_granted : {A : Type 0} → Verdict → A → A → A
-if_granted Granted a b = a
-if_granted (Refused r) a b = b
+if_granted (Ok tt) a b = a
+if_granted (Err r) a b = b
 
 -- ---- the sections of a file
 abbrev pub pages_part : List ℕ → Part
-pages_part l = record { place = if_granted (image_verdict l Granted) (pages_place l) 0; bytes = (image_call l).pages }
+pages_part l = record { place = if_granted (image_verdict l (Ok tt)) (pages_place l) 0; bytes = (image_call l).pages }
 
 abbrev pub rights_part : List ℕ → Part
-rights_part l = record { place = if_granted (image_verdict l Granted) (rights_place l) 0; bytes = (image_call l).rights }
+rights_part l = record { place = if_granted (image_verdict l (Ok tt)) (rights_place l) 0; bytes = (image_call l).rights }
 
 -- ---- a page: in which of the two lent memories it is, "as its entry says", and where in it
 abbrev pub page_home : Shape → Bor (List ℕ) → Bor (List ℕ) → VirtualPage → Bor (List ℕ)

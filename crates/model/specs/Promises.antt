@@ -4,15 +4,13 @@ use Rattle.std.specs.Prelude.{◌≡◌, List, ℕ}
 use Rattle.std.specs.Borrow.{Bor}
 use Rattle.model.specs.Frames.{advanced}
 use Rattle.model.specs.State.{Memory, State, state}
-use Rattle.model.specs.Answers.{verdict_numbers, image_numbers}
+use Rattle.model.specs.Answers.{verdict_numbers, image_numbers, Verdict, ImageAnswer}
 use Rattle.model.specs.Calls.{run_outcome, run_call, read_call, write_call, view_call, reply_call}
 use Rattle.model.specs.Image.{image_call, least_main_pages, load_call}
 use Rattle.model.specs.Parts.{PartOf, pages_part, rights_part, view_home, view_part}
 use Rattle.model.specs.declared.VirtualPage.{VirtualPage}
 use Rattle.model.specs.declared.FrameBook.{FrameBook}
 use Rattle.model.specs.declared.Machine.{Machine}
-use Rattle.model.specs.declared.Verdict.{Verdict}
-use Rattle.model.specs.declared.ImageAnswer.{ImageAnswer}
 use Rattle.model.specs.declared.RunResult.{RunResult}
 use Rattle.model.specs.declared.Handed.{Handed}
 

@@ -1,14 +1,13 @@
 -- A series of steps, each handed what the last one left: the state after it, the loads that it reports, and its order of demands. A step
 -- is a call, or what the host does to the spare bits of an entry between calls.
-use Rattle.std.specs.Prelude.{◌&&◌, List, [], ◌∷◌, ◌++◌, ℕ, ◌+◌, ltb, if◌then◌else◌}
+use Rattle.std.specs.Prelude.{◌&&◌, List, [], ◌∷◌, ◌++◌, ℕ, ◌+◌, ltb, if◌then◌else◌, Ok, Err}
+use Rattle.model.specs.Answers.{Verdict}
 use Rattle.model.specs.Table.{set_spare}
 use Rattle.model.specs.State.{State, state}
 use Rattle.model.specs.Flat.{flat}
 use Rattle.model.specs.Order.{Demand, order_of}
 use Rattle.model.specs.Calls.{run_verdict, run_call, write_call, reply_call}
 use Rattle.model.specs.declared.VirtualPage.{VirtualPage}
-use Rattle.model.specs.declared.Verdict.{Verdict}
-use Rattle.model.specs.declared.Verdict.TheVariants.{Granted, Refused}
 
 pub data Call : Type 0 where
   runs : (limit : ℕ) → Call
@@ -35,8 +34,8 @@ loads_of p (replies i v) = 0
 
 -- the instructions of a run that is not refused
 abbrev pub order_by : Verdict → State → ℕ → List Demand
-order_by Granted p n = order_of n (flat p)
-order_by (Refused r) p n = []
+order_by (Ok tt) p n = order_of n (flat p)
+order_by (Err r) p n = []
 
 unfoldable pub call_order : State → Call → List Demand
 call_order p (runs n) = order_by (run_verdict p n) p n

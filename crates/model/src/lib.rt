@@ -2,13 +2,13 @@
 #![tactic(auto)]
 
 // Three page numbers occur: virtual, main (physical) and swap. Only the translation rules of specs/Pages turn one into another.
-#[derive(Clone, Copy)]
+#[derive(Clone, Copy, PartialEq, Eq)]
 pub struct VirtualPage(pub u32);
 
-#[derive(Clone, Copy)]
+#[derive(Clone, Copy, PartialEq, Eq)]
 pub struct MainPage(pub u32);
 
-#[derive(Clone, Copy)]
+#[derive(Clone, Copy, PartialEq, Eq)]
 pub struct SwapPage(pub u32);
 
 // The shape numbers: P, a, abase, ptl, pto, sbase.
@@ -93,52 +93,50 @@ pub enum Outcome {
 // Refusals 1 to 10.
 #[derive(Clone, Copy)]
 pub enum Refusal {
-    Bound,
-    Unsound,
-    Rights,
-    TooMuch,
-    Edition,
-    Format,
-    Room,
-    Mnemonic,
-    Operand,
-    Overflow,
+    Bound = 1,
+    Unsound = 2,
+    Rights = 3,
+    TooMuch = 4,
+    Edition = 5,
+    Format = 6,
+    Room = 7,
+    Mnemonic = 8,
+    Operand = 9,
+    Overflow = 10,
 }
 
 // The answer of a call that only does its work or refuses it.
+pub type Verdict = Result<(), Refusal>;
+
+// The answer of a run: what a run that is not refused tells.
 #[derive(Clone, Copy)]
-pub enum Verdict {
-    Granted,
-    Refused(Refusal),
+pub struct Ran {
+    pub stop: Stop,
+    pub finished: u32,
+    pub loads: u32,
+    pub copied: u32,
 }
 
-// The answer of a run.
+pub type RunAnswer = Result<Ran, Refusal>;
+
+// The answer of the reader of console images: "ptl, start and frames as written".
 #[derive(Clone, Copy)]
-pub enum RunAnswer {
-    Ran {
-        stop: Stop,
-        finished: u32,
-        loads: u32,
-        copied: u32,
-    },
-    NotRun(Refusal),
+pub struct Written {
+    pub ptl: u32,
+    pub start: u32,
+    pub frames: u32,
 }
 
-// The answer of the reader of console images.
-#[derive(Clone, Copy)]
-pub enum ImageAnswer {
-    Image { ptl: u32, start: u32, frames: u32 },
-    NotImage(Refusal),
-}
+pub type ImageAnswer = Result<Written, Refusal>;
 
-// What a run hands back: the record and the answer.
+// What a run hands back: the answer, and the record, which a refusal hands back too.
 #[derive(Clone, Copy)]
 pub struct RunResult {
     pub machine: Machine,
     pub answer: RunAnswer,
 }
 
-// What a host write, a reply and loading hand back.
+// What a host write, a reply and loading hand back: the record stands beside the verdict, since a refusal hands one back too.
 #[derive(Clone, Copy)]
 pub struct Handed {
     pub machine: Machine,

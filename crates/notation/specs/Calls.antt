@@ -1,17 +1,13 @@
 -- What the two calls answer, and every byte of the lent output afterwards.
-use Rattle.std.specs.Prelude.{List, [], ◌∷◌, ℕ, ◌+◌, ◌*◌, ◌/◌, ◌%◌, leb, eqb, length, if◌then◌else◌}
+use Rattle.std.specs.Prelude.{List, [], ◌∷◌, ℕ, ◌*◌, ◌/◌, ◌%◌, leb, eqb, length, if◌then◌else◌, Ok, Err}
 use Rattle.model.specs.Choice.{list_below}
 use Rattle.model.specs.Bytes.{number}
 use Rattle.model.specs.Answers.{VerdictNumbers, verdict_numbers}
 use Rattle.model.specs.declared.Refusal.TheVariants.{Bound, Room}
-use Rattle.model.specs.declared.Verdict.TheVariants.{Granted, Refused}
 use Rattle.laws.specs.Over.{over}
 use Rattle.notation.specs.Text.{Reading, words, bad, read_text}
 use Rattle.notation.specs.Listing.{listing}
-use Rattle.notation.specs.declared.AssembleAnswer.{AssembleAnswer}
-use Rattle.notation.specs.declared.AssembleAnswer.TheVariants.{Assembled, NotAssembled}
-use Rattle.notation.specs.declared.ListAnswer.{ListAnswer}
-use Rattle.notation.specs.declared.ListAnswer.TheVariants.{Listed, NotListed}
+use Rattle.notation.specs.Answers.{AssembleAnswer, not_assembled, ListAnswer}
 
 -- ---- "Words and halves are little endian"
 abbrev pub bytes_of_word : ℕ → List ℕ → List ℕ
@@ -33,8 +29,8 @@ pub record AssembleNumbers : Type 0 where
 
 -- "A refusal returns its number, zero for every other number", but the line and the column of a bad line
 abbrev pub assemble_numbers : AssembleAnswer → AssembleNumbers
-assemble_numbers (Assembled n) = record { verdict = verdict_numbers Granted; length = n; line = 0; column = 0 }
-assemble_numbers (NotAssembled r line column) = record { verdict = verdict_numbers (Refused r); length = 0; line = line; column = column }
+assemble_numbers (Ok n) = record { verdict = verdict_numbers (Ok tt); length = n; line = 0; column = 0 }
+assemble_numbers (Err w) = record { verdict = verdict_numbers (Err w.refusal); length = 0; line = w.line; column = w.column }
 
 pub record AssembleOutcome : Type 0 where
   pub numbers : AssembleNumbers
@@ -46,9 +42,9 @@ assemble_outcome a out = record { numbers = assemble_numbers a; out = out }
 -- "last, 7 for a lent output shorter than the result"; bytes behind the result stay
 abbrev pub assemble_by : Reading → List ℕ → AssembleOutcome
 assemble_by (words ws) out =
-    if leb (4 * length ws) (length out) then assemble_outcome (Assembled (4 * length ws)) (over 0 (bytes_of ws) out)
-    else assemble_outcome (NotAssembled Room 0 0) out
-assemble_by (bad r line column) out = assemble_outcome (NotAssembled r line column) out
+    if leb (4 * length ws) (length out) then assemble_outcome (Ok (4 * length ws)) (over 0 (bytes_of ws) out)
+    else assemble_outcome (Err (not_assembled Room 0 0)) out
+assemble_by (bad r line column) out = assemble_outcome (Err (not_assembled r line column)) out
 
 unfoldable pub assemble_call : List ℕ → List ℕ → AssembleOutcome
 assemble_call text out = assemble_by (read_text text) out
@@ -59,8 +55,8 @@ pub record ListNumbers : Type 0 where
   pub length : ℕ
 
 abbrev pub list_numbers : ListAnswer → ListNumbers
-list_numbers (Listed n) = record { verdict = verdict_numbers Granted; length = n }
-list_numbers (NotListed r) = record { verdict = verdict_numbers (Refused r); length = 0 }
+list_numbers (Ok n) = record { verdict = verdict_numbers (Ok tt); length = n }
+list_numbers (Err r) = record { verdict = verdict_numbers (Err r); length = 0 }
 
 pub record ListOutcome : Type 0 where
   pub numbers : ListNumbers
@@ -72,7 +68,7 @@ list_outcome a out = record { numbers = list_numbers a; out = out }
 -- any whole number of words; then room for the text
 abbrev pub list_by : List ℕ → List ℕ → ListOutcome
 list_by text out =
-    if leb (length text) (length out) then list_outcome (Listed (length text)) (over 0 text out) else list_outcome (NotListed Room) out
+    if leb (length text) (length out) then list_outcome (Ok (length text)) (over 0 text out) else list_outcome (Err Room) out
 
 unfoldable pub list_call : List ℕ → List ℕ → ListOutcome
-list_call bytes out = if eqb (length bytes % 4) 0 then list_by (listing (words_of bytes)) out else list_outcome (NotListed Bound) out
+list_call bytes out = if eqb (length bytes % 4) 0 then list_by (listing (words_of bytes)) out else list_outcome (Err Bound) out

@@ -1,5 +1,6 @@
 -- The makers' notation: the table of mnemonics, a line, a text, a listing, and the two calls.
 pub mod Table
+pub mod Answers
 pub mod Sums
 pub mod Line
 pub mod Text

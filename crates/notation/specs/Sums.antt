@@ -1,12 +1,10 @@
 -- A sum in a line: "Operands may be sums and differences with parentheses, nested at most eight deep, a minus before a term too, each
 -- value kept in 32 bits signed". Places count from 0; a value v is kept as v + 2^31.
-use Rattle.std.specs.Prelude.{Bool, true, false, ◌&&◌, ◌||◌, List, ℕ, zero, suc, ◌+◌, ◌-◌, ◌*◌, ltb, leb, eqb, length, get_or, drop, if◌then◌else◌}
+use Rattle.std.specs.Prelude.{Bool, true, false, ◌&&◌, ◌||◌, List, ℕ, zero, suc, ◌+◌, ◌-◌, ◌*◌, ltb, leb, eqb, length, get_or, drop, Result, Ok, Err, if◌then◌else◌}
 use Rattle.model.specs.declared.Refusal.TheVariants.{Operand, Overflow}
 use Rattle.text.specs.Reading as reading
-use Rattle.text.specs.declared.reading.Part.{Part}
-use Rattle.text.specs.declared.reading.Part.TheVariants.{Number, NotNumber}
-use Rattle.notation.specs.declared.Parsed.{Parsed}
-use Rattle.notation.specs.declared.Parsed.TheVariants.{Value, Wrong}
+use Rattle.text.specs.declared.reading.Number.{Number}
+use Rattle.notation.specs.Answers.{Parsed, wrong}
 
 -- a space, a tab, a carriage return
 unfoldable pub is_blank : ℕ → Bool
@@ -22,20 +20,20 @@ skipped s at = at + length (reading.front is_blank (drop at s))
 
 -- a value goes on, a refusal stays
 abbrev pub and_then : Parsed → (ℕ → ℕ → Parsed) → Parsed
-and_then (Value v n) onto = onto v n
-and_then (Wrong r p) onto = Wrong r p
+and_then (Ok (v, n)) onto = onto v n
+and_then (Err w) onto = Err w
 
 -- ---- a number: decimal digits, at least one; one above `most` does not fit, at its first digit
-abbrev pub numbered : ℕ → Part → Parsed
-numbered at (Number v n) = Value v n
-numbered at (NotNumber column) = Wrong Overflow at
+abbrev pub numbered : ℕ → Result Number ℕ → Parsed
+numbered at (Ok n) = Ok (n.value, n.next)
+numbered at (Err column) = Err (wrong Overflow at)
 
 unfoldable pub number_at : List ℕ → ℕ → ℕ → Parsed
-number_at s at most = if reading.is_digit (byte_at s at) then numbered at (reading.number_at s at most) else Wrong Operand at
+number_at s at most = if reading.is_digit (byte_at s at) then numbered at (reading.number_at s at most) else Err (wrong Operand at)
 
 -- ---- "each value kept in 32 bits signed": v is 2^32 more than the value, and `at` where the value's text begins
 unfoldable pub kept : ℕ → ℕ → ℕ → Parsed
-kept at v n = if leb 2147483648 v && ltb v 6442450944 then Value (v - 2147483648) n else Wrong Overflow at
+kept at v n = if leb 2147483648 v && ltb v 6442450944 then Ok (v - 2147483648, n) else Err (wrong Overflow at)
 
 -- the sum or the difference of two values
 abbrev pub joined : ℕ → ℕ → Bool → ℕ → ℕ → Parsed
@@ -65,16 +63,16 @@ negated at minus p = if minus then and_then p (joined at 2147483648 true) else p
 -- the parenthesis behind a sum
 abbrev pub closed : List ℕ → Parsed → Parsed
 closed s p =
-    and_then p (λ v n. if eqb (byte_at s (skipped s n)) 41 then Value v (skipped s n + 1) else Wrong Operand (skipped s n))
+    and_then p (λ v n. if eqb (byte_at s (skipped s n)) 41 then Ok (v, skipped s n + 1) else Err (wrong Operand (skipped s n)))
 
 -- a number as a value
 abbrev pub valued : Parsed → Parsed
-valued p = and_then p (λ v n. Value (v + 2147483648) n)
+valued p = and_then p (λ v n. Ok (v + 2147483648, n))
 
 -- a number, or a sum in parentheses; `read` reads what is further on
 abbrev pub factor : (Goal → Parsed) → List ℕ → ℕ → ℕ → Parsed
 factor read s at d =
-    if eqb (byte_at s at) 40 then (if eqb d 0 then Wrong Operand at else closed s (read (whole (skipped s (at + 1)) (d - 1))))
+    if eqb (byte_at s at) 40 then (if eqb d 0 then Err (wrong Operand at) else closed s (read (whole (skipped s (at + 1)) (d - 1))))
     else valued (number_at s at 2147483647)
 
 -- behind a term: the next one, or the sum's end
@@ -82,7 +80,7 @@ abbrev pub more : (Goal → Parsed) → List ℕ → ℕ → ℕ → ℕ → ℕ
 more read s start d v n =
     if eqb (byte_at s (skipped s n)) 43 then read (terms start (skipped s (skipped s n + 1)) v false d)
     else if eqb (byte_at s (skipped s n)) 45 then read (terms start (skipped s (skipped s n + 1)) v true d)
-    else Value v n
+    else Ok (v, n)
 
 unfoldable pub read_by : (Goal → Parsed) → List ℕ → Goal → Parsed
 read_by read s (term at d) = negated at (is_minus s at) (factor read s (start_of s at) d)
@@ -91,7 +89,7 @@ read_by read s (terms start at acc minus d) =
 
 -- at most k readings one within another
 unfoldable pub read_in : ℕ → List ℕ → Goal → Parsed
-read_in zero s g = Wrong Operand 0
+read_in zero s g = Err (wrong Operand 0)
 read_in (suc k) s g = read_by (read_in k s) s g
 
 -- by the bytes left: as many as there can be

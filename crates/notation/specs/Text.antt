@@ -1,9 +1,8 @@
 -- A text, line by line: "one instruction a line", and "A bad line answers with its line number and column".
-use Rattle.std.specs.Prelude.{List, [], ◌∷◌, ℕ, ◌+◌, eqb, if◌then◌else◌}
+use Rattle.std.specs.Prelude.{List, [], ◌∷◌, ℕ, ◌+◌, eqb, if◌then◌else◌, Ok, Err}
 use Rattle.model.specs.declared.Refusal.{Refusal}
 use Rattle.notation.specs.Line.{line_of}
-use Rattle.notation.specs.declared.Parsed.{Parsed}
-use Rattle.notation.specs.declared.Parsed.TheVariants.{Value, Wrong}
+use Rattle.notation.specs.Answers.{Parsed}
 
 -- a byte before the first line
 abbrev pub before : ℕ → List (List ℕ) → List (List ℕ)
@@ -26,8 +25,8 @@ with w (bad r line column) = bad r line column
 
 -- line k, and what is read behind it
 abbrev pub judged : ℕ → Parsed → Reading → Reading
-judged k (Value w n) behind = with w behind
-judged k (Wrong r place) behind = bad r k (place + 1)
+judged k (Ok (w, n)) behind = with w behind
+judged k (Err w) behind = bad w.refusal k (w.place + 1)
 
 unfoldable pub read_from : ℕ → List (List ℕ) → Reading
 read_from k [] = words []

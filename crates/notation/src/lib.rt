@@ -11,29 +11,26 @@ pub enum Piece {
     Field { scale: u64, size: u64, signed: bool },
 }
 
-// What is read at a place of a line: a value and the place behind it, or the refusal and the place that earns it.
+// A refusal, and the place that earns it.
 #[derive(Clone, Copy)]
-pub enum Parsed {
-    Value { value: u64, next: usize },
-    Wrong { refusal: Refusal, place: usize },
+pub struct Wrong {
+    pub refusal: Refusal,
+    pub place: usize,
 }
 
-// The assembler's answer: how many bytes the words take; or a refusal, and the line and the column that earn it (0 and 0 for want of room).
+// What is read at a place of a line: a value and the place behind it.
+pub type Parsed = Result<(u64, usize), Wrong>;
+
+// A refusal, and the line and the column that earn it (0 and 0 for want of room).
 #[derive(Clone, Copy)]
-pub enum AssembleAnswer {
-    Assembled {
-        length: usize,
-    },
-    NotAssembled {
-        refusal: Refusal,
-        line: usize,
-        column: usize,
-    },
+pub struct NotAssembled {
+    pub refusal: Refusal,
+    pub line: usize,
+    pub column: usize,
 }
+
+// The assembler's answer: how many bytes the words take.
+pub type AssembleAnswer = Result<usize, NotAssembled>;
 
 // The lister's answer: how many bytes the text takes.
-#[derive(Clone, Copy)]
-pub enum ListAnswer {
-    Listed { length: usize },
-    NotListed(Refusal),
-}
+pub type ListAnswer = Result<usize, Refusal>;

@@ -11,7 +11,7 @@ pub fn entry(s: Shape, main: &[u8], x: VirtualPage) -> u32
     requires { Fit s (length main.now) × (x.0 < s.ptl) }
     ensures { result ≡ entries.entry s main.now x }
 {
-    words::word_at(main, pages::entry_at(s, x))
+    words::number_at::<4>(main, pages::entry_at(s, x))
 }
 
 // The right that an access asks for: bit 1 where it writes, bit 2 where it reads.
@@ -56,7 +56,7 @@ pub(crate) fn put_out_entry(s: Shape, main: &mut [u8], x: VirtualPage)
     ensures { main.new ≡ entries.with_entry s main.old x (entries.put_out (entries.entry s main.old x)) }
 {
     let e = entry(s, main, x);
-    words::put_word(main, pages::entry_at(s, x), kept(e));
+    words::put_number::<4>(main, pages::entry_at(s, x), kept(e));
 }
 
 // "y's entry gets ppx abase+f and v 1"
@@ -65,7 +65,7 @@ pub(crate) fn bring_entry(s: Shape, main: &mut [u8], y: VirtualPage, p: MainPage
     ensures { main.new ≡ entries.with_entry s main.old y (entries.brought_to p (entries.entry s main.old y)) }
 {
     let e = entry(s, main, y);
-    words::put_word(
+    words::put_number::<4>(
         main,
         pages::entry_at(s, y),
         pages::ppx_part(p) + kept(e) + 1,

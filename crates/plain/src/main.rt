@@ -41,8 +41,7 @@ fn go<W: Write>(
     };
     while at.place < script.len() {
         let next = plainsession::speak(at, memory, rights, script, out);
-        let filled = next.filled;
-        to.write_all(&out[..filled])?;
+        to.write_all(&out[..next.filled])?;
         at = next;
     }
     Ok(at.standing)
@@ -67,8 +66,7 @@ fn with_file<R: Read, W: Write, E: Write>(
     let mut rights = [0; 80];
     let mut out = [0; 65536];
     let begun = plainsession::begin(file, &mut memory, &mut rights, &mut out);
-    let filled = begun.filled;
-    to.write_all(&out[..filled])?;
+    to.write_all(&out[..begun.filled])?;
     if begun.goes_on {
         go(
             begun.standing,

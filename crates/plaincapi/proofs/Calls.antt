@@ -4,18 +4,15 @@ use mathlib.Core.List.{List}
 use Prim.Native.Nat.{ℕ}
 use lib.ListN.{length}
 use borrow.Author.Tests.{eq-eqb, ne_eqb}
-use Rattle.model.specs.Answers.{refusal_number, verdict_numbers}
+use Rattle.std.specs.Prelude.{Ok, Err}
+use Rattle.model.specs.Answers.{refusal_number, verdict_numbers, Verdict}
 use Rattle.model.specs.Calls.{reply_verdict}
 use Rattle.model.specs.declared.Refusal.{Refusal}
 use Rattle.model.specs.declared.Refusal.TheVariants.{Bound}
-use Rattle.model.specs.declared.Verdict.{Verdict}
-use Rattle.model.specs.declared.Verdict.TheVariants.{Granted, Refused}
 use Rattle.plainmodel.specs.State.{plain_state}
-use Rattle.plainmodel.specs.Calls.{plain_numbers, RunOutcome, run_verdict, run_outcome, run_call, read_call, write_call, reply_call, with_register}
+use Rattle.plainmodel.specs.Calls.{plain_numbers, RunOutcome, run_verdict, run_outcome, run_call, read_call, write_call, reply_call, with_register, PlainAnswer}
 use Rattle.plainmodel.specs.Load.{load_call}
 use Rattle.plainmodel.specs.declared.Plain.{Plain}
-use Rattle.plainmodel.specs.declared.PlainAnswer.{PlainAnswer}
-use Rattle.plainmodel.specs.declared.PlainAnswer.TheVariants.{NotRun}
 use Rattle.plainrecord.specs.Words.{record_length, plain_of, words_of}
 use Rattle.plainrecord.proofs.Words.{words_plain}
 use Rattle.plaincapi.specs.Calls as calls
@@ -49,12 +46,12 @@ module _ (words memory rights : List ℕ) (limit : ℕ) (answer : List ℕ) wher
 
     module _ (f : length answer ≡ 3) (m : Plain) (em : m ≡ plain_of words) where
       -- where it is refused the words stay as they are
-      pub run_not : (v : Verdict) → v ≡ run_verdict (plain_state m memory rights) limit → (r : Refusal) → v ≡ Refused r
-          → (n : ℕ) (w : List ℕ) → (n ≡ (plain_numbers (NotRun r)).verdict.refused) × (w ≡ calls.run_words (plain_numbers (NotRun r)))
+      pub run_not : (v : Verdict) → v ≡ run_verdict (plain_state m memory rights) limit → (r : Refusal) → v ≡ Err r
+          → (n : ℕ) (w : List ℕ) → (n ≡ (plain_numbers (Err r)).verdict.refused) × (w ≡ calls.run_words (plain_numbers (Err r)))
           → record { returned = n; words = words; memory = memory; answer = w } ≡ calls.run words memory rights limit answer
       unfolding calls.run run_call
       run_not v ev r h n w ew =
-          let q : run_verdict (plain_state (plain_of words) memory rights) limit ≡ Refused r
+          let q : run_verdict (plain_state (plain_of words) memory rights) limit ≡ Err r
           = ap (λ k. run_verdict (plain_state k memory rights) limit) (sym em) ∙ sym ev ∙ h in
           simp (ew.0, ew.1, eq-eqb _ _ e, eq-eqb _ _ f, q, words_plain words e)
 
@@ -100,11 +97,11 @@ module _ (words : List ℕ) (i v : ℕ) where
 
   module _ (e : length words ≡ record_length) (u : Verdict) (eu : u ≡ reply_verdict i) where
     -- the code sets register k
-    pub reply_set : u ≡ Granted → (k : ℕ) → k ≡ i → (w : List ℕ) → w ≡ words_of (with_register (plain_of words) k v)
+    pub reply_set : u ≡ Ok tt → (k : ℕ) → k ≡ i → (w : List ℕ) → w ≡ words_of (with_register (plain_of words) k v)
         → record { returned = 0; words = w } ≡ calls.reply words i v
     unfolding calls.reply reply_call
     reply_set h k is w ew = simp (eq-eqb _ _ e, ← eu, h, ew, is)
 
-    pub reply_not : (r : Refusal) → u ≡ Refused r → (n : ℕ) → n ≡ refusal_number r → record { returned = n; words = words } ≡ calls.reply words i v
+    pub reply_not : (r : Refusal) → u ≡ Err r → (n : ℕ) → n ≡ refusal_number r → record { returned = n; words = words } ≡ calls.reply words i v
     unfolding calls.reply reply_call
     reply_not r h n en = simp (eq-eqb _ _ e, ← eu, h, en, words_plain words e)

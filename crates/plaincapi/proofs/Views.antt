@@ -8,12 +8,11 @@ use native.Mathlib.Omega.{arith}
 use lib.Dec.{eqb}
 use lib.ListN.{length}
 use borrow.Author.Tests.{eq-eqb, ne_eqb}
+use Rattle.std.specs.Prelude.{Ok, Err}
 use Rattle.model.specs.Pages.{virtual}
-use Rattle.model.specs.Answers.{verdict_numbers, refusal_number}
+use Rattle.model.specs.Answers.{verdict_numbers, refusal_number, Verdict}
 use Rattle.model.specs.declared.VirtualPage.{VirtualPage}
 use Rattle.model.specs.declared.Refusal.TheVariants.{Bound}
-use Rattle.model.specs.declared.Verdict.{Verdict}
-use Rattle.model.specs.declared.Verdict.TheVariants.{Granted, Refused}
 use Rattle.laws.proofs.Bytes.{length-page}
 use Rattle.laws.proofs.Granted.{some_number}
 use Rattle.plainmodel.specs.State.{PlainState, plain_state}
@@ -38,13 +37,13 @@ module _ (p : PlainState) (x : VirtualPage) where
   either = pick (view_verdict p x) refl
     where
       pick : (v : Verdict) → view_verdict p x ≡ v → Granting ⊎ Refusing
-      pick Granted e =
+      pick (Ok tt) e =
           let k = view_granted p x e in
           inl (record {
             number = simp e;
             long = simp e (length-page p.bytes x.0 (omega (arith, k.0.fit.bytes_long, k.0.fit.rights_long, k.1)));
           })
-      pick (Refused r) e = inr (record { number = simp e (some_number r); long = simp e })
+      pick (Err r) e = inr (record { number = simp e (some_number r); long = simp e })
 
   pub granting : length (view_call p x).part ≡ 4096 → Granting
   granting h = ⊎_elim (λ (g : Granting). g) (λ (g : Refusing). absurd (omega (arith, h, g.long))) either

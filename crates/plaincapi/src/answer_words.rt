@@ -10,12 +10,12 @@ pub(crate) fn put_run(answer: &mut [u32], a: PlainAnswer) -> u32
     ensures { (result ≡ (numbers.plain_numbers a).verdict.refused) × (answer.new ≡ run_words (numbers.plain_numbers a)) }
 {
     match a {
-        PlainAnswer::Ran { stop, finished } => {
-            let number = answers::stop_number(stop);
-            imagewords::put_three(answer, number, answers::stop_detail(stop), finished);
+        Ok(ran) => {
+            let number = answers::stop_number(ran.stop);
+            imagewords::put_three(answer, number, answers::stop_detail(ran.stop), ran.finished);
             0
         }
-        PlainAnswer::NotRun(r) => {
+        Err(r) => {
             imagewords::put_three(answer, 0, 0, 0);
             answers::refusal_number(r)
         }

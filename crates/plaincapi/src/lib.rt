@@ -8,8 +8,7 @@ mod answer_words;
 ghost use Rattle.imagewords.specs.Image.{ImagePromise};
 ghost use Rattle.plaincapi.specs.Promises as promises;
 
-use model::{Verdict, VirtualPage};
-use plainmodel::PlainAnswer;
+use model::VirtualPage;
 
 // The words of a record, and the bytes of a page.
 const RECORD: usize = plainrecord::LENGTH;
@@ -30,10 +29,8 @@ pub fn brenwythal_plain_load(
         return 1;
     }
     let h = plainloading::load(file, memory, rights);
-    let m = h.plain;
-    let v = h.verdict;
-    plainrecord::put_plain(words, m);
-    answers::verdict_number(v)
+    plainrecord::put_plain(words, h.plain);
+    answers::verdict_number(h.verdict)
 }
 
 // Runs at most `limit` instructions. The answer: stop, detail, finished.
@@ -54,14 +51,12 @@ pub fn brenwythal_plain_run(
         return 1;
     }
     match plainverdict::run_verdict(plainrecord::plain_of(words), memory, rights, limit) {
-        Verdict::Granted => {
+        Ok(()) => {
             let r = plainmachine::run_granted(plainrecord::plain_of(words), memory, rights, limit);
-            let m = r.plain;
-            let a = r.answer;
-            plainrecord::put_plain(words, m);
-            answer_words::put_run(answer, a)
+            plainrecord::put_plain(words, r.plain);
+            answer_words::put_run(answer, r.answer)
         }
-        Verdict::Refused(r) => answer_words::put_run(answer, PlainAnswer::NotRun(r)),
+        Err(r) => answer_words::put_run(answer, Err(r)),
     }
 }
 
@@ -138,7 +133,7 @@ pub fn brenwythal_plain_view<'a>(
             VirtualPage(page),
         ));
     }
-    words::copy(part, into);
+    into.copy_from_slice(part);
     0
 }
 
@@ -150,11 +145,11 @@ pub fn brenwythal_plain_reply(words: &mut [u32], register: u32, value: u32) -> u
         return 1;
     }
     match plainverdict::reply_verdict(register) {
-        Verdict::Granted => {
+        Ok(()) => {
             plainrecord::set_register(words, register, value);
             0
         }
-        Verdict::Refused(r) => answers::refusal_number(r),
+        Err(r) => answers::refusal_number(r),
     }
 }
 

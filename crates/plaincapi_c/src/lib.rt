@@ -1,4 +1,5 @@
 // The calls of the crate `plaincapi` for hosts in C and Rust, as the archive exports them: brenwythal_plain.h says what each does.
+// An archive exports what its own crate defines under C's names, so each call stands here again, with its promise.
 #![tactic(auto)]
 
 ghost use Rattle.imagewords.specs.Image.{ImagePromise};

@@ -79,7 +79,7 @@ size_divides word va n e h = omega (arith, e, h)
 
 -- it ends within the memory
 pub inside : (rights bytes : List ℕ) → Sized rights bytes → (writing : Bool) (width : Width) (va : ℕ) (r : Reached)
-    → r ≡ reach (size width) va (allow rights writing va) → Ends width (length bytes) r
+    → r ≡ reach (size width) va (allow rights writing va) → Ends (size width) (length bytes) r
 inside rights bytes s writing width va r is i at =
     let t : Place (size width) va (allow rights writing va) i = placed _ _ _ i (sym is ∙ at) in
     let l : Lies rights writing va i = lies rights writing va i t.at in

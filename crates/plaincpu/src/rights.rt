@@ -2,8 +2,9 @@
 ghost use Rattle.std.specs.Prelude.{◌≡◌, ◌<◌};
 ghost use Rattle.model.specs.Flat as flat;
 ghost use Rattle.cpu.specs.Reach as rule;
+ghost use Rattle.plaincpu.specs.Sized.{Sized};
 
-use cpu::access::Reached;
+use cpu::access::{Reached, Reaching};
 
 // A rights byte, "1 read, 2 write, 3 both, 0 none", and the right that an access asks for.
 pub fn grants(b: u8, writing: bool) -> bool
@@ -13,6 +14,22 @@ pub fn grants(b: u8, writing: bool) -> bool
         return b / 2 % 2 == 1;
     }
     b % 2 == 1
+}
+
+// The flat memory, as an attempt sees it: the rights of its pages.
+#[derive(Clone, Copy)]
+pub struct Rights<'a> {
+    pub of: &'a [u8],
+}
+
+impl<'a> Reaching for Rights<'a> {
+    ghost access = { λ r bytes. flat.allow r.of.now };
+
+    ghost ready = { λ r bytes. Sized r.of.now bytes };
+
+    fn reach(self, _m: &[u8], va: u32, width: u32, writing: bool) -> Reached {
+        reach(self.of, va, width, writing)
+    }
 }
 
 // The access to va, of `width` bytes.

@@ -26,22 +26,6 @@ use Rattle.plainengine.specs.declared.Ended.{Ended}
 use Rattle.plainengine.specs.declared.Leg.{Leg}
 use Rattle.plainengine.proofs.Running.{begun, joined, goes_on, stops_there, goes_done, goes_wrote, stops_trapped, stops_stopped, stops_missing, unchanged}
 
--- ---- by the arms of a match that an outcome went past
-pub unended : (o : Outcome) → ((q : Pcs) → o ≡ Done q → ⊥) → ((q : Pcs) (i : ℕ) → o ≡ Wrote q i → ⊥) → ¬ Finished o
-unended (Done q) d w = λ f. d q refl
-unended (Wrote q i) d w = λ f. w q i refl
-unended (Trapped q n) d w = λ f. f
-unended (Missing va) d w = λ f. f
-unended (Stopped s) d w = λ f. f
-
-pub goes_further : (o : Outcome) → ((q : Pcs) (n : ℕ) → o ≡ Trapped q n → ⊥) → ((va : ℕ) → o ≡ Missing va → ⊥) → ((s : Stop) → o ≡ Stopped s → ⊥)
-    → Finished o
-goes_further (Done q) t m s = tt
-goes_further (Wrote q i) t m s = tt
-goes_further (Trapped q n) t m s = absurd (t q n refl)
-goes_further (Missing va) t m s = absurd (m va refl)
-goes_further (Stopped k) t m s = absurd (s k refl)
-
 -- a memory of the same length is lent as well
 pub sized_over : (rights m m' : List ℕ) → length m' ≡ length m → Sized rights m → Sized rights m'
 sized_over rights m m' e s = record { long = e ∙ s.long; most = s.most }

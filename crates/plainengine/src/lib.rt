@@ -26,23 +26,14 @@ pub(crate) struct Leg {
     pub pcs: Pcs,
 }
 
+// Each of the four ends of `go` is one line by it.
 fn finish(stop: Stop, finished: u32, pcs: Pcs) -> Ended
     ensures { result ≡ record { stop = stop; finished = finished; pcs = pcs } }
 {
     Ended {
-        stop: stop,
-        finished: finished,
-        pcs: pcs,
-    }
-}
-
-fn pause(outcome: Outcome, left: u32, pcs: Pcs) -> Leg
-    ensures { result ≡ record { outcome = outcome; left = left; pcs = pcs } }
-{
-    Leg {
-        outcome: outcome,
-        left: left,
-        pcs: pcs,
+        stop,
+        finished,
+        pcs,
     }
 }
 
@@ -54,7 +45,7 @@ fn on_page(page: u32, va: u32) -> bool
 }
 
 // At most n instructions, while a fetch is on the page of the first: the loop that a guest spends its time in. It asks the rights for
-// data alone, since they never change during a run.
+// data alone, since they never change during a run. How many are left is handed back, so no `for` counts them.
 fn walk(g: &mut [u32; 32], p: Pcs, rights: &[u8], m: &mut [u8], n: u32) -> Leg
     requires { Sized rights.now m.old × (fetches rights.now p.dpc ≡ true) × (0 < n) }
     ensures { Walked (flat_of g.old p rights.now m.old) n result g.new m.new }
@@ -72,7 +63,11 @@ fn walk(g: &mut [u32; 32], p: Pcs, rights: &[u8], m: &mut [u8], n: u32) -> Leg
                 pcs = q;
             }
             _ => {
-                return pause(o, left, pcs);
+                return Leg {
+                    outcome: o,
+                    left,
+                    pcs,
+                };
             }
         }
         left = left - 1;
@@ -80,7 +75,11 @@ fn walk(g: &mut [u32; 32], p: Pcs, rights: &[u8], m: &mut [u8], n: u32) -> Leg
             break;
         }
     }
-    pause(Outcome::Done(pcs), left, pcs)
+    Leg {
+        outcome: Outcome::Done(pcs),
+        left,
+        pcs,
+    }
 }
 
 // A leg from p on: along DPC's page, if that can be fetched from.
@@ -89,7 +88,11 @@ fn leg_from(g: &mut [u32; 32], p: Pcs, rights: &[u8], m: &mut [u8], n: u32) -> L
     ensures { Walked (flat_of g.old p rights.now m.old) n result g.new m.new }
 {
     if !plaincpu::fetched(rights, p.dpc) {
-        return pause(plaincpu::unfetched(rights, p), n, p);
+        return Leg {
+            outcome: plaincpu::unfetched(rights, p),
+            left: n,
+            pcs: p,
+        };
     }
     walk(g, p, rights, m, n)
 }

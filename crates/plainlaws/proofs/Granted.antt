@@ -7,7 +7,8 @@ use Prim.Native.Nat.{ℕ, ◌+◌, ◌<◌}
 use lib.Dec.{leb, ltb}
 use lib.ListN.{length, get_or}
 use borrow.Author.Tests.{ltb-true, leb-true, eqb-true, le-leb, eq-eqb}
-use Rattle.std.specs.Prelude.{if◌then◌else◌}
+use Rattle.std.specs.Prelude.{if◌then◌else◌, Ok}
+use Rattle.model.specs.Answers.{Verdict}
 use Rattle.model.specs.Pages.{page_of}
 use Rattle.model.specs.Translate.{legal}
 use Rattle.model.specs.Flat.{grants, allow}
@@ -15,8 +16,6 @@ use Rattle.model.specs.Calls.{unless}
 use Rattle.model.specs.declared.Access.TheVariants.{Illegal, At}
 use Rattle.model.specs.declared.VirtualPage.{VirtualPage}
 use Rattle.model.specs.declared.Refusal.TheVariants.{Bound, Unsound, Rights, TooMuch}
-use Rattle.model.specs.declared.Verdict.{Verdict}
-use Rattle.model.specs.declared.Verdict.TheVariants.{Granted}
 use Rattle.laws.proofs.Choice.{and_left, every_at, every_from, pass, pass_none, pass_more}
 use Rattle.laws.proofs.Granted.{unless_granted}
 use Rattle.plainmodel.specs.State.{PlainState}
@@ -54,7 +53,7 @@ module _ (p : PlainState) where
       (pass_more _ _ (every_from (length p.rights) _ (λ x q. le-leb _ _ (s.rights_most x q))) pass_none)
 
   -- ---- 1 and 2
-  pub plain_granted : (v : Verdict) → plain_verdict p v ≡ Granted → PlainGood p × (v ≡ Granted)
+  pub plain_granted : (v : Verdict) → plain_verdict p v ≡ Ok tt → PlainGood p × (v ≡ Ok tt)
   unfolding plain_verdict
   plain_granted v e =
       let f = unless_granted (fits p) Bound _ e in
@@ -65,7 +64,7 @@ module _ (p : PlainState) where
   unfolding plain_verdict
   plain_onward g after = rw (fits_of g.fit, sound_of g.sound)
 
-  pub run_good : (n : ℕ) → run_verdict p n ≡ Granted → PlainGood p
+  pub run_good : (n : ℕ) → run_verdict p n ≡ Ok tt → PlainGood p
   unfolding run_verdict
   run_good n e = (plain_granted _ e).0
 
@@ -88,18 +87,18 @@ permitted_inside w rights va n e i q =
 
 -- ---- 3 and 4
 module _ (p : PlainState) where
-  pub host_granted : (w : Bool) (va n : ℕ) → host_verdict w p va n ≡ Granted → PlainGood p × InRights p.rights va n
+  pub host_granted : (w : Bool) (va n : ℕ) → host_verdict w p va n ≡ Ok tt → PlainGood p × InRights p.rights va n
   unfolding host_verdict
   host_granted w va n e =
       let m : Bool = permitted w p.rights va n in
       let g = plain_granted p _ e in (
         g.0,
         permitted_inside w p.rights va n
-            (unless_granted m Rights Granted (unless_granted (leb n 256) TooMuch (unless m Rights Granted) g.1).1).0,
+            (unless_granted m Rights (Ok tt) (unless_granted (leb n 256) TooMuch (unless m Rights (Ok tt)) g.1).1).0,
       )
 
-  pub view_granted : (x : VirtualPage) → view_verdict p x ≡ Granted → PlainGood p × (x.0 < length p.rights)
+  pub view_granted : (x : VirtualPage) → view_verdict p x ≡ Ok tt → PlainGood p × (x.0 < length p.rights)
   unfolding view_verdict viewable
   view_granted x e =
       let g = plain_granted p _ e in
-      (g.0, ltb-true _ _ (and_left _ _ (unless_granted (viewable p.rights x) Rights Granted g.1).0))
+      (g.0, ltb-true _ _ (and_left _ _ (unless_granted (viewable p.rights x) Rights (Ok tt) g.1).0))

@@ -3,29 +3,29 @@ ghost use Rattle.std.specs.Prelude.{◌≡◌};
 ghost use Rattle.plainmodel.specs.Load as load;
 ghost use Rattle.plainloading.specs.Fresh as fresh;
 
-use model::{Pcs, Refusal, Verdict};
+use model::{Pcs, Refusal, Written};
 use plainmodel::{Plain, PlainHanded};
 
 // "7 for a lent length": a memory of ptl pages, and a rights byte for each. In 64 bits the product does not go round.
+#[tactic(auto, unfolding(plainmodel::specs::Load::room))]
 pub(crate) fn room(ptl: u32, memory: usize, rights: usize) -> bool
     ensures { result ≡ load.room ptl memory rights }
 {
     let pages = ptl as usize;
-    (memory == 4096 * pages) & (rights == pages)
+    memory == 4096 * pages && rights == pages
 }
 
 // "DPC start, PC' start+4, all else 0"
-pub(crate) fn plain(ptl: u32, start: u32) -> Plain
-    ensures { result ≡ fresh.fresh_plain ptl start }
+pub(crate) fn plain(written: Written) -> Plain
+    ensures { result ≡ fresh.fresh_plain written.ptl written.start }
 {
-    let pcs = Pcs {
-        dpc: start,
-        next: std::num::wrapping_add_u32(start, 4),
-    };
     Plain {
-        ptl: ptl,
+        ptl: written.ptl,
         gpr: [0; 32],
-        pcs: pcs,
+        pcs: Pcs {
+            dpc: written.start,
+            next: written.start.wrapping_add(4),
+        },
     }
 }
 
@@ -33,13 +33,12 @@ pub(crate) fn plain(ptl: u32, start: u32) -> Plain
 pub fn refused(refusal: Refusal) -> PlainHanded
     ensures { result ≡ fresh.refused_by refusal }
 {
-    let pcs = Pcs { dpc: 0, next: 0 };
     PlainHanded {
         plain: Plain {
             ptl: 0,
             gpr: [0; 32],
-            pcs: pcs,
+            pcs: Pcs { dpc: 0, next: 0 },
         },
-        verdict: Verdict::Refused(refusal),
+        verdict: Err(refusal),
     }
 }

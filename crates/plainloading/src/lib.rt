@@ -3,7 +3,7 @@
 
 ghost use Rattle.plainmodel.specs.Promises.{LoadPromise};
 
-use model::{ImageAnswer, Refusal, Verdict};
+use model::Refusal;
 use plainmodel::PlainHanded;
 
 pub mod fresh;
@@ -13,21 +13,16 @@ pub fn load(file: &[u8], memory: &mut [u8], rights: &mut [u8]) -> PlainHanded
     ensures { LoadPromise file.now memory.old rights.old result memory.new rights.new }
 {
     match image::read(file) {
-        ImageAnswer::NotImage(refusal) => fresh::refused(refusal),
-        ImageAnswer::Image {
-            ptl,
-            start,
-            frames: _,
-        } => {
-            if !fresh::room(ptl, memory.len(), rights.len()) {
+        Err(refusal) => fresh::refused(refusal),
+        Ok(written) => {
+            if !fresh::room(written.ptl, memory.len(), rights.len()) {
                 return fresh::refused(Refusal::Room);
             }
-            let plain = fresh::plain(ptl, start);
-            loading::memory::fill_pages(image::pages(file), ptl, memory);
-            words::copy(image::rights(file), rights);
+            loading::memory::fill_pages(image::pages(file), written.ptl, memory);
+            rights.copy_from_slice(image::rights(file));
             PlainHanded {
-                plain: plain,
-                verdict: Verdict::Granted,
+                plain: fresh::plain(written),
+                verdict: Ok(()),
             }
         }
     }

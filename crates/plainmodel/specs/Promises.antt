@@ -2,11 +2,10 @@
 -- definition. The call's `ensures` cites the promise by its name, and `unique` (crates/unique) shows that no two outcomes fit it.
 use Rattle.std.specs.Prelude.{◌≡◌, List, ℕ}
 use Rattle.std.specs.Borrow.{Bor}
-use Rattle.model.specs.Answers.{verdict_numbers}
+use Rattle.model.specs.Answers.{verdict_numbers, Verdict}
 use Rattle.model.specs.Parts.{Part, PartOf, if_granted}
 use Rattle.model.specs.Pages.{first_va}
 use Rattle.model.specs.declared.VirtualPage.{VirtualPage}
-use Rattle.model.specs.declared.Verdict.{Verdict}
 use Rattle.plainmodel.specs.State.{PlainState, plain_state}
 use Rattle.plainmodel.specs.Calls.{run_outcome, run_call, read_call, write_call, view_verdict, view_call, reply_call}
 use Rattle.plainmodel.specs.Load.{load_call}

@@ -11,12 +11,14 @@ pub struct Plain {
     pub pcs: Pcs,
 }
 
-// The answer of a run. "Loads are not its business and it reports none."
+// The answer of a run: what a run that is not refused tells. "Loads are not its business and it reports none."
 #[derive(Clone, Copy)]
-pub enum PlainAnswer {
-    Ran { stop: Stop, finished: u32 },
-    NotRun(Refusal),
+pub struct PlainRan {
+    pub stop: Stop,
+    pub finished: u32,
 }
+
+pub type PlainAnswer = Result<PlainRan, Refusal>;
 
 // What a run hands back: the record and the answer.
 #[derive(Clone, Copy)]

@@ -18,7 +18,8 @@ use Rattle.plainsession.specs.Desk.{Desk, desk, standing, lent, handed_back, cha
 use Rattle.plainsession.specs.Ready.{Lent}
 use Rattle.plainsession.specs.declared.table.Change.{Change}
 use Rattle.plainsession.specs.declared.table.Line.{Line}
-use Rattle.plainsession.specs.declared.table.Line.TheVariants.{Calls, Sum, Changes, Bad}
+use Rattle.plainsession.specs.declared.table.Line.TheVariants.{Calls, Sum, Changes}
+use Rattle.std.specs.Prelude.{Result, Ok, Err}
 use Rattle.plainsession.specs.declared.Standing.{Standing}
 use Rattle.plainsession.specs.declared.Told.{Told}
 
@@ -36,13 +37,13 @@ back_as d m ys =
 
 -- ---- a line l, and what it was read as
 module _ (number : ℕ) (l : List ℕ) where
-  by_line : {z x : Line} → z ≡ line_of l → z ≡ x → (d : Desk) → spoken_by x number l d ≡ spoken number l d
+  by_line : {z x : Result Line ℕ} → z ≡ line_of l → z ≡ x → (d : Desk) → spoken_by x number l d ≡ spoken number l d
   unfolding spoken
-  by_line read g d = ap (λ (y : Line). spoken_by y number l d) (sym g ∙ read)
+  by_line read g d = ap (λ (y : Result Line ℕ). spoken_by y number l d) (sym g ∙ read)
 
-  module _ (at : Standing) (memory rights : List ℕ) {before after : List ℕ} {filled : ℕ} {r : Told} {z : Line} (read : z ≡ line_of l) where
+  module _ (at : Standing) (memory rights : List ℕ) {before after : List ℕ} {filled : ℕ} {r : Told} {z : Result Line ℕ} (read : z ≡ line_of l) where
     -- a call; the lent bytes come back as it leaves them
-    pub call_told : (c : Call) (n : Numbers) → z ≡ Calls c n → {m : Plain} {to : ℕ} → r ≡ told_of m at.memory at.rights to true
+    pub call_told : (c : Call) (n : Numbers) → z ≡ Ok (Calls c n) → {m : Plain} {to : ℕ} → r ≡ told_of m at.memory at.rights to true
         → {ys : List ℕ} → Says before filled after to (plain_state m ys (take at.rights rights))
         (answered c n (bytes_of (take (length l - n.hex) (drop n.hex l))) (lent (desk at memory rights))) → Lent at
         → Tells before filled after r (ys ++ drop at.memory memory) rights (spoken number l (desk at memory rights)) × Lent r.standing
@@ -55,7 +56,7 @@ module _ (number : ℕ) (l : List ℕ) where
         )
 
     -- the sums; everything stays as it was
-    pub sum_told : z ≡ Sum → {to : ℕ} → r ≡ told_of at.plain at.memory at.rights to true
+    pub sum_told : z ≡ Ok Sum → {to : ℕ} → r ≡ told_of at.plain at.memory at.rights to true
         → Appended before filled after to (sum_text (lent (desk at memory rights))) → Lent at
         → Tells before filled after r memory rights (spoken number l (desk at memory rights)) × Lent r.standing
     unfolding spoken_by
@@ -66,7 +67,7 @@ module _ (number : ℕ) (l : List ℕ) where
         )
 
     -- what a change leaves
-    pub changed_told : (c : Change) (n : Numbers) → z ≡ Changes c n → {memory' rights' : List ℕ}
+    pub changed_told : (c : Change) (n : Numbers) → z ≡ Ok (Changes c n) → {memory' rights' : List ℕ}
         → Tells before filled after r memory' rights' (changed_by c n (bytes_of (take (length l - n.hex) (drop n.hex l))) (desk at memory rights))
         → Tells before filled after r memory' rights' (spoken number l (desk at memory rights))
     unfolding spoken_by
@@ -75,7 +76,7 @@ module _ (number : ℕ) (l : List ℕ) where
         rw (ap (λ (x : List ℕ). changed_by c n (bytes_of x) d) (rest_is l n.hex) ∙ by_line read g d) at told
 
     -- a line that is bad
-    pub bad_told : (column : ℕ) → z ≡ Bad column → {to : ℕ} → r ≡ told_of at.plain at.memory at.rights to false
+    pub bad_told : (column : ℕ) → z ≡ Err column → {to : ℕ} → r ≡ told_of at.plain at.memory at.rights to false
         → Appended before filled after to (bad_text number column) → Lent at
         → Tells before filled after r memory rights (spoken number l (desk at memory rights)) × Lent r.standing
     unfolding spoken_by

@@ -1,5 +1,5 @@
 -- What stands between two lines, and what a line makes of it.
-use Rattle.std.specs.Prelude.{Bool, List, ◌++◌, ℕ, take, drop}
+use Rattle.std.specs.Prelude.{Bool, List, ◌++◌, ℕ, take, drop, Result, Ok, Err}
 use Rattle.laws.specs.Over.{over}
 use Rattle.text.specs.Reading.{bytes_of}
 use Rattle.answerlines.specs.Lines.{word_line, bad_text}
@@ -17,7 +17,7 @@ use Rattle.plainsession.specs.Answers.{Answer, answered, sum_text}
 use Rattle.plainsession.specs.declared.table.Change.{Change}
 use Rattle.plainsession.specs.declared.table.Change.TheVariants.{Memory, Rights, Record, Lend}
 use Rattle.plainsession.specs.declared.table.Line.{Line}
-use Rattle.plainsession.specs.declared.table.Line.TheVariants.{Calls, Sum, Changes, Bad}
+use Rattle.plainsession.specs.declared.table.Line.TheVariants.{Calls, Sum, Changes}
 use Rattle.plainsession.specs.declared.Standing.{Standing}
 use Rattle.plainsession.specs.declared.Told.{Told}
 
@@ -76,11 +76,11 @@ changed_by c n bytes d = onward (changed c n bytes d) (word_line (change_word c)
 abbrev pub bad_at : ℕ → ℕ → Desk → Spoken Desk
 bad_at number column d = ending d (bad_text number column)
 
-unfoldable pub spoken_by : Line → ℕ → List ℕ → Desk → Spoken Desk
-spoken_by (Calls c n) number l d = said_to c n (bytes_of (drop n.hex l)) d
-spoken_by Sum number l d = summed d
-spoken_by (Changes c n) number l d = changed_by c n (bytes_of (drop n.hex l)) d
-spoken_by (Bad column) number l d = bad_at number column d
+unfoldable pub spoken_by : Result Line ℕ → ℕ → List ℕ → Desk → Spoken Desk
+spoken_by (Ok (Calls c n)) number l d = said_to c n (bytes_of (drop n.hex l)) d
+spoken_by (Ok Sum) number l d = summed d
+spoken_by (Ok (Changes c n)) number l d = changed_by c n (bytes_of (drop n.hex l)) d
+spoken_by (Err column) number l d = bad_at number column d
 
 unfoldable pub spoken : ℕ → List ℕ → Desk → Spoken Desk
 spoken number l d = spoken_by (line_of l) number l d

@@ -4,6 +4,7 @@ use Rattle.model.specs.Answers.{refusal_number}
 use Rattle.model.specs.Image.{ptl_of, start_of, frames_of}
 use Rattle.model.specs.Console.{refused_line}
 use Rattle.model.specs.declared.Refusal.TheVariants.{Room}
+use Rattle.model.specs.declared.Written.{Written}
 use Rattle.answerlines.specs.Lines.{loaded_text}
 use Rattle.talk.specs.Script.{Spoken, onward, ending, Talk, talk_after}
 use Rattle.talk.specs.Stretch.{point, joined, Stretches}
@@ -48,10 +49,10 @@ WholeText = (file script : List ℕ) (ts : List (List ℕ)) (last : Desk)
     → plain_talk file script ≡ record { text = (begun_with file).text ++ joined ts; desk = last }
 
 -- what the reader answered for the file
-pub record Read (file : List ℕ) (ptl start frames : ℕ) : Type 0 where
-  pub ptl_is : ptl ≡ ptl_of file
-  pub start_is : start ≡ start_of file
-  pub frames_is : frames ≡ frames_of file
+pub record Read (file : List ℕ) (w : Written) : Type 0 where
+  pub ptl_is : w.ptl ≡ ptl_of file
+  pub start_is : w.start ≡ start_of file
+  pub frames_is : w.frames ≡ frames_of file
 
 -- what code hands back says that the image is refused, whatever stands in the buffers
 abbrev pub TurnedAway : ℕ → List ℕ → List ℕ → Told → Type 0

@@ -1,5 +1,5 @@
 -- The table of the words of `plain`: behind the calls, which the programs have in common, its own.
-use Rattle.std.specs.Prelude.{List, [], ◌∷◌, ℕ}
+use Rattle.std.specs.Prelude.{List, [], ◌∷◌, ℕ, Option, Some, None}
 use Rattle.plainrecord.specs.Words.{last_word}
 use Rattle.script.specs.Vocabulary.{sum_word, record_word, lend_word}
 use Rattle.script.specs.Table.{any, Named, named, first_fit, call_of, or_own}
@@ -8,7 +8,7 @@ use Rattle.script.specs.declared.table.Row.TheVariants.{Two, HexWithin}
 use Rattle.plainsession.specs.declared.table.Change.{Change}
 use Rattle.plainsession.specs.declared.table.Change.TheVariants.{Memory, Rights, Record, Lend}
 use Rattle.plainsession.specs.declared.table.Word.{Word}
-use Rattle.plainsession.specs.declared.table.Word.TheVariants.{Calls, Sum, Changes, Unknown}
+use Rattle.plainsession.specs.declared.table.Word.TheVariants.{Calls, Sum, Changes}
 
 -- `memory`
 abbrev pub memory_word : List ℕ
@@ -33,13 +33,13 @@ change_row Record = Two last_word any  -- `record I V`
 change_row Lend = Two memory_size rights_size  -- `lend M R`
 
 -- ---- what a word names
-abbrev pub own : List (Named Word)
+abbrev pub own : List (Named (Option Word))
 own =
-    named sum_word Sum ∷ named memory_word (Changes Memory) ∷ named rights_word (Changes Rights) ∷ named record_word (Changes Record)
-    ∷ named lend_word (Changes Lend) ∷ []
+    named sum_word (Some Sum) ∷ named memory_word (Some (Changes Memory)) ∷ named rights_word (Some (Changes Rights)) ∷ named record_word (Some (Changes Record))
+    ∷ named lend_word (Some (Changes Lend)) ∷ []
 
-abbrev pub own_of : List ℕ → Word
-own_of w = first_fit Unknown w own
+abbrev pub own_of : List ℕ → Option Word
+own_of w = first_fit None w own
 
-unfoldable pub word_of : List ℕ → Word
-word_of w = or_own Calls (call_of w) (own_of w)
+unfoldable pub word_of : List ℕ → Option Word
+word_of w = or_own (λ c. Some (Calls c)) (call_of w) (own_of w)

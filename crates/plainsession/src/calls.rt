@@ -12,7 +12,7 @@ ghost use Rattle.plainsession.specs.Answers as answers;
 use answerlines::{numbers_line, registers_line, verdict_line};
 use answers::refusal_number;
 use model::VirtualPage;
-use plainmodel::{Plain, PlainAnswer};
+use plainmodel::Plain;
 use script::Call;
 use script::parts::Numbers;
 use text::lines::refused_line;
@@ -32,17 +32,15 @@ fn run(m: Plain, memory: &mut [u8], rights: &[u8], limit: u32, out: &mut [u8], a
         (answers.ran (calls.run_call (plain_state m memory.old rights.now) limit)) }
 {
     let result = plainmachine::run(m, memory, rights, limit);
-    let after = result.plain;
-    let answer = result.answer;
-    match answer {
-        PlainAnswer::NotRun(refusal) => {
-            left(after, refused_line(out, at, refusal_number(refusal)))
-        }
-        PlainAnswer::Ran { stop, finished } => {
-            let number = answers::stop_number(stop);
-            let why = [number, answers::stop_detail(stop)];
-            let counts = [finished];
-            left(after, numbers_line(out, at, b"run", &why, &counts))
+    match result.answer {
+        Err(refusal) => left(result.plain, refused_line(out, at, refusal_number(refusal))),
+        Ok(ran) => {
+            let number = answers::stop_number(ran.stop);
+            let why = [number, answers::stop_detail(ran.stop)];
+            left(
+                result.plain,
+                numbers_line(out, at, b"run", &why, &[ran.finished]),
+            )
         }
     }
 }
@@ -99,9 +97,10 @@ fn reply(m: Plain, n: Numbers, out: &mut [u8], at: usize) -> Done
         × Appended out.old at out.new result.filled (answers.reply_text (calls.reply_call m n.first n.second)) }
 {
     let handed = plainmachine::reply(m, n.first, n.second);
-    let after = handed.plain;
-    let verdict = handed.verdict;
-    left(after, verdict_line(out, at, verdict, b"reply", b""))
+    left(
+        handed.plain,
+        verdict_line(out, at, handed.verdict, b"reply", b""),
+    )
 }
 
 // `registers`
@@ -109,18 +108,13 @@ fn registers(m: Plain, out: &mut [u8], at: usize) -> Done
     requires { at + 512 ≤ length out.old }
     ensures { (result.plain ≡ m) × Appended out.old at out.new result.filled (answers.registers_text m) }
 {
-    let pcs = m.pcs;
-    let gpr = m.gpr;
-    left(m, registers_line(out, at, pcs, gpr))
+    left(m, registers_line(out, at, m.pcs, m.gpr))
 }
 
 fn left(m: Plain, filled: usize) -> Done
     ensures { (result.plain ≡ m) × (result.filled ≡ filled) }
 {
-    Done {
-        plain: m,
-        filled: filled,
-    }
+    Done { plain: m, filled }
 }
 
 pub fn answer(

@@ -16,7 +16,7 @@ ghost use Rattle.plainsession.specs.Promises.{BeginPromise};
 
 use answerlines::numbers_line;
 use answers::refusal_number;
-use model::{ImageAnswer, Refusal, Verdict};
+use model::{Refusal, Written};
 use plainmodel::Plain;
 use text::lines::refused_line;
 
@@ -51,37 +51,25 @@ fn turned_away(refusal: Refusal, out: &mut [u8]) -> Told
     ensures { series.TurnedAway (refusal_number refusal) out.old out.new result }
 {
     let handed = plainloading::fresh::refused(refusal);
-    let nothing = handed.plain;
     let filled = refused_line(out, 0, refusal_number(refusal));
-    step::told(nothing, 0, 0, filled, false)
+    step::told(handed.plain, 0, 0, filled, false)
 }
 
 // The image is well formed and small: it is loaded into as many pages as it has.
-fn load(
-    file: &[u8],
-    ptl: u32,
-    start: u32,
-    frames: u32,
-    memory: &mut [u8],
-    rights: &mut [u8],
-    out: &mut [u8],
-) -> Told
-    requires { series.Read file.now ptl start frames × Room memory.old rights.old out.old × (ptl ≤ 80) }
+fn load(file: &[u8], written: Written, memory: &mut [u8], rights: &mut [u8], out: &mut [u8]) -> Told
+    requires { series.Read file.now written × Room memory.old rights.old out.old × (written.ptl ≤ 80) }
     ensures { Tells out.old 0 out.new result memory.new rights.new
         (series.loaded (series.lent_for file.now memory.old rights.old) file.now) }
 {
-    let n = ptl as usize;
+    let n = written.ptl as usize;
     let a = 4096 * n;
     let handed = plainloading::load(file, &mut memory[..a], &mut rights[..n]);
-    let plain = handed.plain;
-    let verdict = handed.verdict;
-    match verdict {
-        Verdict::Refused(refusal) => turned_away(refusal, out),
-        Verdict::Granted => {
-            let pages = [ptl];
-            let numbers = [start, frames];
-            let filled = numbers_line(out, 0, b"loaded", &pages, &numbers);
-            step::told(plain, a, n, filled, true)
+    match handed.verdict {
+        Err(refusal) => turned_away(refusal, out),
+        Ok(()) => {
+            let numbers = [written.start, written.frames];
+            let filled = numbers_line(out, 0, b"loaded", &[written.ptl], &numbers);
+            step::told(handed.plain, a, n, filled, true)
         }
     }
 }
@@ -97,10 +85,8 @@ pub fn begin(file: &[u8], memory: &mut [u8], rights: &mut [u8], out: &mut [u8]) 
         return turned_away(Refusal::Room, out);
     }
     match image::read(file) {
-        ImageAnswer::NotImage(refusal) => turned_away(refusal, out),
-        ImageAnswer::Image { ptl, start, frames } => {
-            load(file, ptl, start, frames, memory, rights, out)
-        }
+        Err(refusal) => turned_away(refusal, out),
+        Ok(written) => load(file, written, memory, rights, out),
     }
 }
 
@@ -125,15 +111,14 @@ pub fn speak(
         let end = text::scan::find(script, place, script.len(), 10);
         number += 1;
         let told = step::step(at, memory, rights, &script[place..end], number, out, filled);
-        let next = told.standing;
-        at = next;
+        at = told.standing;
         filled = told.filled;
         place = if told.goes_on { end + 1 } else { script.len() };
     }
     Stretch {
         standing: at,
-        number: number,
-        place: place,
-        filled: filled,
+        number,
+        place,
+        filled,
     }
 }

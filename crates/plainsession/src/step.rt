@@ -84,18 +84,18 @@ pub(crate) fn step(
     let a = at.memory;
     let r = at.rights;
     match table::parse(line) {
-        Line::Calls(c, n) => {
+        Ok(Line::Calls(c, n)) => {
             let hex = n.hex;
             let digits = &line[hex..];
             let done = calls::answer(c, n, m, &mut memory[..a], &rights[..r], digits, out, filled);
             let after = done.plain;
             told(after, a, r, done.filled, true)
         }
-        Line::Sum => {
+        Ok(Line::Sum) => {
             let to = sums_line(out, filled, b"sum", &memory[..a], &rights[..r]);
             told(m, a, r, to, true)
         }
-        Line::Changes(c, n) => {
+        Ok(Line::Changes(c, n)) => {
             let hex = n.hex;
             let next = change(at, memory, rights, c, n, &line[hex..]);
             let word = text::scan::find(line, 0, line.len(), 32);
@@ -105,7 +105,7 @@ pub(crate) fn step(
                 goes_on: true,
             }
         }
-        Line::Bad(column) => {
+        Err(column) => {
             let bad = [number, column as u32];
             told(m, a, r, numbers_line(out, filled, b"bad", &bad, &[]), false)
         }

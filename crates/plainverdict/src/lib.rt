@@ -4,9 +4,8 @@
 
 mod permission;
 
-ghost use Rattle.std.specs.Prelude.{◌≡◌, [], ◌≤◌, length};
+ghost use Rattle.std.specs.Prelude.{◌≡◌, [], ◌≤◌, length, Ok};
 ghost use Rattle.model.specs.Calls as base;
-ghost use Rattle.model.specs.declared.Verdict.TheVariants as verdict;
 ghost use Rattle.plainmodel.specs.State.{plain_state};
 ghost use Rattle.plainmodel.specs.Calls as calls;
 ghost use Rattle.plainverdict.specs.Handed.{handed};
@@ -14,16 +13,6 @@ ghost use Rattle.plainverdict.specs.Handed.{handed};
 use image::format;
 use model::{Refusal, Verdict, VirtualPage};
 use plainmodel::Plain;
-
-// The refusal r where the test fails.
-fn unless(test: bool, r: Refusal) -> Verdict
-    ensures { result ≡ base.unless test r verdict.Granted }
-{
-    if test {
-        return Verdict::Granted;
-    }
-    Verdict::Refused(r)
-}
 
 // "1 for ptl or a lent length". In 64 bits no product goes round.
 #[tactic(auto, using(crate::proofs::Verdicts::many_pages))]
@@ -59,28 +48,29 @@ fn sound(zero: u32, rights: &[u8]) -> bool
 
 // Refusals 1 and 2, which every call but the reply tests first. The machine is handed in parts, since a call that is not inlined copies
 // what it is handed by value.
+#[tactic(auto, unfolding(plainmodel::specs::Calls::plain_verdict, plainmodel::specs::Calls::fits, plainmodel::specs::Calls::sound))]
 fn plain_verdict(ptl: u32, zero: u32, memory: &[u8], rights: &[u8]) -> Verdict
-    ensures { result ≡ calls.plain_verdict (handed ptl zero memory.now rights.now) verdict.Granted }
+    ensures { result ≡ calls.plain_verdict (handed ptl zero memory.now rights.now) (Ok tt) }
 {
     if !fits(ptl, memory, rights) {
-        return Verdict::Refused(Refusal::Bound);
+        return Err(Refusal::Bound);
     }
-    unless(sound(zero, rights), Refusal::Unsound)
+    if !sound(zero, rights) {
+        return Err(Refusal::Unsound);
+    }
+    Ok(())
 }
 
-// Refusal 4 of a run: "0 to 1,000,000 instructions". Its last test is written out, as that of the paged machine's.
+// Refusal 4 of a run: "0 to 1,000,000 instructions".
+#[tactic(auto, using(crate::proofs::Verdicts::onward), unfolding(plainmodel::specs::Calls::run_verdict))]
 pub fn run_verdict(m: Plain, memory: &[u8], rights: &[u8], limit: u32) -> Verdict
     ensures { result ≡ calls.run_verdict (plain_state m memory.now rights.now) limit }
 {
-    match plain_verdict(m.ptl, m.gpr[0], memory, rights) {
-        Verdict::Refused(r) => Verdict::Refused(r),
-        Verdict::Granted => {
-            if limit <= 1000000 {
-                return Verdict::Granted;
-            }
-            Verdict::Refused(Refusal::TooMuch)
-        }
+    plain_verdict(m.ptl, m.gpr[0], memory, rights)?;
+    if limit > 1000000 {
+        return Err(Refusal::TooMuch);
     }
+    Ok(())
 }
 
 // Refusals 4 and 3 of a transfer of n bytes: "0 to 256 bytes", "all pages need r, or w".
@@ -89,15 +79,16 @@ fn transfer_verdict(rights: &[u8], writing: bool, va: u32, n: usize) -> Verdict
     ensures { result ≡ calls.transfer_verdict writing rights.now va n }
 {
     if n > 256 {
-        return Verdict::Refused(Refusal::TooMuch);
+        return Err(Refusal::TooMuch);
     }
-    unless(
-        permission::permitted(rights, writing, va, n),
-        Refusal::Rights,
-    )
+    if !permission::permitted(rights, writing, va, n) {
+        return Err(Refusal::Rights);
+    }
+    Ok(())
 }
 
 // The four refusals of host read and host write.
+#[tactic(auto, using(crate::proofs::Verdicts::onward, crate::proofs::Verdicts::few_pages), unfolding(plainmodel::specs::Calls::host_verdict))]
 pub fn host_verdict(
     m: Plain,
     memory: &[u8],
@@ -108,25 +99,29 @@ pub fn host_verdict(
 ) -> Verdict
     ensures { result ≡ calls.host_verdict writing (plain_state m memory.now rights.now) va n }
 {
-    match plain_verdict(m.ptl, m.gpr[0], memory, rights) {
-        Verdict::Refused(r) => Verdict::Refused(r),
-        Verdict::Granted => transfer_verdict(rights, writing, va, n),
-    }
+    plain_verdict(m.ptl, m.gpr[0], memory, rights)?;
+    transfer_verdict(rights, writing, va, n)
 }
 
 // Refusal 3 of the page view: "a readable page".
+#[tactic(auto, using(crate::proofs::Verdicts::onward), unfolding(plainmodel::specs::Calls::view_verdict))]
 pub fn view_verdict(m: Plain, memory: &[u8], rights: &[u8], page: VirtualPage) -> Verdict
     ensures { result ≡ calls.view_verdict (plain_state m memory.now rights.now) page }
 {
-    match plain_verdict(m.ptl, m.gpr[0], memory, rights) {
-        Verdict::Refused(r) => Verdict::Refused(r),
-        Verdict::Granted => unless(permission::viewable(rights, page), Refusal::Rights),
+    plain_verdict(m.ptl, m.gpr[0], memory, rights)?;
+    if !permission::viewable(rights, page) {
+        return Err(Refusal::Rights);
     }
+    Ok(())
 }
 
 // Refusal 4 of a reply: "register not 1 to 31".
+#[tactic(auto, using(std::proofs::lemmas::Bool::Decides::nat_tests), unfolding(model::specs::Calls::reply_verdict))]
 pub fn reply_verdict(register: u32) -> Verdict
     ensures { result ≡ base.reply_verdict register }
 {
-    unless((1 <= register) & (register <= 31), Refusal::TooMuch)
+    if !(1..=31).contains(&register) {
+        return Err(Refusal::TooMuch);
+    }
+    Ok(())
 }

@@ -10,7 +10,7 @@ ghost use Rattle.model.specs.Console.{refused_line, run_lines, loaded_lines, loa
 ghost use Rattle.text.specs.Text.{Appended};
 ghost use Rattle.program.specs.Promises.{ConsolePromise};
 
-use model::{ImageAnswer, Machine, Refusal, RunAnswer, Verdict};
+use model::{Machine, Refusal};
 use text::lines;
 
 // "the one line `refused` with the number"
@@ -28,23 +28,16 @@ fn run_and_print(m: Machine, main: &mut [u8], swap: &mut [u8], out: &mut [u8]) -
         × (memory main.new swap.new ≡ (run_call (state m main.old swap.old) 1000).state.memory) }
 {
     let result = machine::run(m, main, swap, 1000);
-    let dpc = result.machine.pcs.dpc;
-    let answer = result.answer;
-    match answer {
-        RunAnswer::NotRun(refusal) => refuse(refusal, out),
-        RunAnswer::Ran {
-            stop,
-            finished,
-            loads,
-            copied: _,
-        } => lines::four_lines(
+    match result.answer {
+        Err(refusal) => refuse(refusal, out),
+        Ok(ran) => lines::four_lines(
             out,
             0,
-            answers::stop_number(stop),
-            answers::stop_detail(stop),
-            finished,
-            loads,
-            dpc,
+            answers::stop_number(ran.stop),
+            answers::stop_detail(ran.stop),
+            ran.finished,
+            ran.loads,
+            result.machine.pcs.dpc,
         ),
     }
 }
@@ -57,11 +50,9 @@ fn load_and_run(input: &[u8], main: &mut [u8], swap: &mut [u8], out: &mut [u8]) 
         ≡ loaded_memory (load_call input.now (memory main.old swap.old))) }
 {
     let handed = loading::load(input, main, swap);
-    let machine = handed.machine;
-    let verdict = handed.verdict;
-    match verdict {
-        Verdict::Refused(refusal) => refuse(refusal, out),
-        Verdict::Granted => run_and_print(machine, main, swap, out),
+    match handed.verdict {
+        Err(refusal) => refuse(refusal, out),
+        Ok(()) => run_and_print(handed.machine, main, swap, out),
     }
 }
 
@@ -77,16 +68,12 @@ pub fn console(input: &[u8], main: &mut [u8], swap: &mut [u8], out: &mut [u8]) -
         return refuse(Refusal::Room, out);
     }
     match image::read(input) {
-        ImageAnswer::NotImage(refusal) => refuse(refusal, out),
-        ImageAnswer::Image {
-            ptl,
-            start: _,
-            frames: _,
-        } => {
-            if ptl > 4 {
+        Err(refusal) => refuse(refusal, out),
+        Ok(written) => {
+            if written.ptl > 4 {
                 return refuse(Refusal::Room, out);
             }
-            let n = 4096 * (ptl as usize);
+            let n = 4096 * (written.ptl as usize);
             load_and_run(input, main, &mut swap[..n], out)
         }
     }

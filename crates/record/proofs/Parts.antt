@@ -1,29 +1,29 @@
 -- Laws of parts: words read from their places, pages and their numbers, and the whole record as its four parts.
-use mathlib.Core.Path.{◌≡◌, refl, sym, ap, ◌∙◌}
+use mathlib.Core.Path.{◌≡◌, refl, sym, ap, ap₂, ◌∙◌}
 use mathlib.Core.List.{List, [], ◌∷◌, ◌++◌, append_assoc, append-nil}
 use Prim.Native.Nat.{ℕ, suc, ◌+◌, ◌-◌, ◌≤◌, ◌<◌}
 use native.Mathlib.Omega.{arith}
-use lib.ListN.{length, get_or, set, take, drop, length-append, length-take, length-drop, drop_of_length-le, get_or-map}
-use lib.Seq.{set-append_left, take_at, drop_at, get_or-take, get_or-drop, take-append_seam, drop-append-add, get_or-append-add}
+use lib.ListN.{length, get_or, set, take, drop, length-append, length-take, length-drop, drop_of_length-le, get_or-map, length-map}
+use lib.Seq.{set-append_left, take_at, drop_at, take-append_seam, drop-append-add, get_or-append-add, paste}
+use Rattle.std.proofs.lemmas.List.Edits.{paste_more}
 use Rattle.model.specs.Pages.{virtual}
 use Rattle.model.specs.declared.VirtualPage.{VirtualPage}
 use Rattle.laws.specs.Over.{over}
-use Rattle.record.specs.Words.{held_at, gpr_at, dpc_at, record_length, part, pages_of, numbers_of}
+use Rattle.record.specs.Words.{held_at, gpr_at, dpc_at, record_length, part, pages_of}
 
 -- ---- a part read out
 pub length_part : (at n : ℕ) (l : List ℕ) → at + n ≤ length l → length (part at n l) ≡ n
 length_part at n l h = simp (length-take, length-drop) (omega arith)
 
-pub part_at : (at n : ℕ) (l : List ℕ) (i : ℕ) → i < n → get_or (part at n l) i 0 ≡ get_or l (at + i) 0
-part_at at n l i h = get_or-take n (drop at l) i 0 h ∙ get_or-drop at l i 0
+-- ---- pages from their numbers: one more has come
+pub page_next : (d : List VirtualPage) (l : List ℕ) (i : ℕ) → i < length d → i < length l
+    → set (paste d 0 (pages_of l) i) i (virtual (get_or l i 0)) ≡ paste d 0 (pages_of l) (i + 1)
+page_next d l i h q =
+    let z : i ≡ 0 + i = omega arith in
+    ap₂ (λ n p. set (paste d 0 (pages_of l) i) n p) z (sym (get_or-map virtual l i 0))
+    ∙ paste_more d 0 (pages_of l) i (virtual 0) (omega (arith, h)) (omega (arith, q, length-map l virtual))
 
--- ---- pages and their numbers
-pub page_at : (l : List ℕ) (i : ℕ) → get_or (pages_of l) i (virtual 0) ≡ virtual (get_or l i 0)
-page_at l i = get_or-map virtual l i 0
-
-pub number_at : (b : List VirtualPage) (i : ℕ) → get_or (numbers_of b) i 0 ≡ (get_or b i (virtual 0)).0
-number_at b i = get_or-map (λ (p : VirtualPage). p.0) b i (virtual 0)
-
+-- ---- the words behind a part
 pub set-behind : (p r : List ℕ) (i v : ℕ) → set (p ++ r) (length p + i) v ≡ p ++ set r i v
 set-behind [] r i v = let z : 0 + i ≡ i = omega arith in ap (λ n. set r n v) z
 set-behind (x ∷ xs) r i v =

@@ -6,6 +6,7 @@ use native.Mathlib.Nat.{not-suc-le-zero}
 use native.Mathlib.Omega.{arith}
 use lib.ListN.{length, take, drop, replicate, length-append, length-drop, length-replicate}
 use lib.Seq.{take_all, take_at, length-take-le}
+use Rattle.std.specs.Prelude.{Result, Ok}
 use Rattle.laws.specs.Over.{over}
 use Rattle.laws.proofs.Over.{part_over}
 use Rattle.text.specs.Reading.{bytes_of}
@@ -31,6 +32,10 @@ module _ (l : List ℕ) (h : ℕ) where
 -- the part of a buffer that is lent
 pub lent_long : (k : ℕ) (l : List ℕ) (n : ℕ) → k ≤ n → length l ≡ n → k ≡ length (take k l)
 lent_long k l n h e = sym (length-take-le k l (omega arith))
+
+-- a line that was read, which is known to be x
+pub read_as : {A : Type 0} {z : Result A ℕ} {y x : A} → z ≡ Ok y → y ≡ x → z ≡ Ok x
+read_as g h = g ∙ ap (λ v. Ok v) h
 
 -- what the numbers of a call or a change keep to, which is known
 pub keeps_known : {A : Type 0} (row : A → Row) {c x : A} → c ≡ x → (n : Numbers) (k : ℕ) → Keeps (row c) n k → Keeps (row x) n k

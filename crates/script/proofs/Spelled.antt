@@ -8,13 +8,10 @@ use lib.Dec.{T, eqb}
 use Rattle.laws.proofs.Choice.{chosen, and_left, and_right}
 use Rattle.model.specs.Bytes.{same}
 use Rattle.script.specs.Table.{Named, first_fit, or_own}
-use Rattle.script.specs.Parts.{line_by}
+use Rattle.script.specs.Parts.{Parts, line_by}
+use Rattle.std.specs.Prelude.{Option, Some, None, Ok, Err}
 use Rattle.script.specs.declared.Call.{Call}
 use Rattle.script.specs.declared.parts.Numbers.{Numbers}
-use Rattle.script.specs.declared.parts.Parts.{Parts}
-use Rattle.script.specs.declared.parts.Parts.TheVariants.{Fit, Unfit}
-use Rattle.script.specs.declared.table.Common.{Common}
-use Rattle.script.specs.declared.table.Common.TheVariants.{Calls, Other}
 
 same_is : (a b : List ℕ) → same a b ≡ true → a ≡ b
 unfolding same
@@ -36,12 +33,12 @@ spelled P none w (n ∷ ns) h k =
     chosen P (same w n.word) (λ t. h.0 (same_is w n.word t)) (λ _. spelled P none w ns h.1 k)
 
 -- behind the calls
-pub own_spelled : {A : Type 0} (P : A → Type 0) (calls : Call → A) (z : Common) (x : A) → ((c : Call) → P (calls c)) → P x → P (or_own calls z x)
-own_spelled P calls (Calls c) x f h = f c
-own_spelled P calls Other x f h = h
+pub own_spelled : {A : Type 0} (P : A → Type 0) (calls : Call → A) (z : Option Call) (x : A) → ((c : Call) → P (calls c)) → P x → P (or_own calls z x)
+own_spelled P calls (Some c) x f h = f c
+own_spelled P calls None x f h = h
 
 -- ---- and of a line, whatever parts it has
 pub line_by_parts : {L : Type 0} (P : L → Type 0) (fits : Numbers → L) (bad : ℕ → L) (p : Parts) → ((n : Numbers) → P (fits n)) → ((column : ℕ) → P (bad column))
     → P (line_by fits bad p)
-line_by_parts P fits bad (Fit n) f g = f n
-line_by_parts P fits bad (Unfit column) f g = g column
+line_by_parts P fits bad (Ok n) f g = f n
+line_by_parts P fits bad (Err column) f g = g column

@@ -1,5 +1,5 @@
 -- The table of a script's words: what each names, and which parts stand behind it.
-use Rattle.std.specs.Prelude.{List, [], ◌∷◌, ℕ, if◌then◌else◌}
+use Rattle.std.specs.Prelude.{List, [], ◌∷◌, ℕ, Option, Some, None, if◌then◌else◌}
 use Rattle.record.specs.Words.{last_word}
 use Rattle.model.specs.Bytes.{same}
 use Rattle.script.specs.Vocabulary.{run_word, read_word, write_word, view_word, reply_word, registers_word, frames_word, sum_word, main_word, swap_word, record_word, lend_word, spare_word}
@@ -8,10 +8,8 @@ use Rattle.script.specs.declared.Call.TheVariants.{Run, Read, Write, View, Reply
 use Rattle.script.specs.declared.Show.TheVariants.{Frames, Sum}
 use Rattle.script.specs.declared.Change.{Change}
 use Rattle.script.specs.declared.Change.TheVariants.{Main, Swap, Record, Lend, Spare}
-use Rattle.script.specs.declared.table.Common.{Common}
-use Rattle.script.specs.declared.table.Common.TheVariants.{Calls as CommonCalls, Other}
 use Rattle.script.specs.declared.table.Word.{Word}
-use Rattle.script.specs.declared.table.Word.TheVariants.{Calls, Shows, Changes, Unknown}
+use Rattle.script.specs.declared.table.Word.TheVariants.{Calls, Shows, Changes}
 use Rattle.script.specs.declared.table.Row.{Row}
 use Rattle.script.specs.declared.table.Row.TheVariants.{Alone, One, Two, Hex, HexWithin}
 
@@ -54,27 +52,27 @@ first_fit none w [] = none
 first_fit none w (n ∷ ns) = if same w n.word then n.names else first_fit none w ns
 
 -- the calls, which the programs have in common
-abbrev pub calls : List (Named Common)
+abbrev pub calls : List (Named (Option Call))
 calls =
-    named run_word (CommonCalls Run) ∷ named read_word (CommonCalls Read) ∷ named write_word (CommonCalls Write)
-    ∷ named view_word (CommonCalls View) ∷ named reply_word (CommonCalls Reply) ∷ named registers_word (CommonCalls Registers) ∷ []
+    named run_word (Some Run) ∷ named read_word (Some Read) ∷ named write_word (Some Write)
+    ∷ named view_word (Some View) ∷ named reply_word (Some Reply) ∷ named registers_word (Some Registers) ∷ []
 
-unfoldable pub call_of : List ℕ → Common
-call_of w = first_fit Other w calls
+unfoldable pub call_of : List ℕ → Option Call
+call_of w = first_fit None w calls
 
 -- a call, or a program's own word
-abbrev pub or_own : {A : Type 0} → (Call → A) → Common → A → A
-or_own calls (CommonCalls c) own = calls c
-or_own calls Other own = own
+abbrev pub or_own : {A : Type 0} → (Call → A) → Option Call → A → A
+or_own calls (Some c) own = calls c
+or_own calls None own = own
 
 -- the words that `series` has behind them
-abbrev pub own : List (Named Word)
+abbrev pub own : List (Named (Option Word))
 own =
-    named frames_word (Shows Frames) ∷ named sum_word (Shows Sum) ∷ named main_word (Changes Main) ∷ named swap_word (Changes Swap)
-    ∷ named record_word (Changes Record) ∷ named lend_word (Changes Lend) ∷ named spare_word (Changes Spare) ∷ []
+    named frames_word (Some (Shows Frames)) ∷ named sum_word (Some (Shows Sum)) ∷ named main_word (Some (Changes Main)) ∷ named swap_word (Some (Changes Swap))
+    ∷ named record_word (Some (Changes Record)) ∷ named lend_word (Some (Changes Lend)) ∷ named spare_word (Some (Changes Spare)) ∷ []
 
-abbrev pub own_of : List ℕ → Word
-own_of w = first_fit Unknown w own
+abbrev pub own_of : List ℕ → Option Word
+own_of w = first_fit None w own
 
-unfoldable pub word_of : List ℕ → Word
-word_of w = or_own Calls (call_of w) (own_of w)
+unfoldable pub word_of : List ℕ → Option Word
+word_of w = or_own (λ c. Some (Calls c)) (call_of w) (own_of w)

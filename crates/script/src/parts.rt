@@ -1,10 +1,10 @@
 // The parts of a line, each behind one space, to the line's end. Places count from 0, columns from 1.
-ghost use Rattle.std.specs.Prelude.{◌≡◌, ◌≤◌, length};
+ghost use Rattle.std.specs.Prelude.{◌≡◌, ◌≤◌, length, IfOk};
 ghost use Rattle.script.specs.Parts as parts;
 
 use crate::table::Row;
 use text::reading;
-use text::reading::Part;
+use text::reading::Number;
 
 // The numbers of a line, 0 where it has none, and where the digits of its HEX begin: at its end where it has none.
 #[derive(Clone, Copy)]
@@ -14,113 +14,103 @@ pub struct Numbers {
     pub hex: usize,
 }
 
-#[derive(Clone, Copy)]
-pub enum Parts {
-    Fit(Numbers),
-    Unfit(usize),
-}
-
-fn fit(first: u32, second: u32, hex: usize) -> Parts
-    ensures { result ≡ parts.fit first second hex }
-{
-    Parts::Fit(Numbers {
-        first: first,
-        second: second,
-        hex: hex,
-    })
-}
-
-fn spaced_number(line: &[u8], at: usize, most: u32) -> Part
+#[tactic(auto, using(text::proofs::Bounds::space_inside), unfolding(crate::specs::Parts::spaced_number))]
+fn spaced_number(line: &[u8], at: usize, most: u32) -> Result<Number, usize>
     requires { at ≤ length line.now }
-    ensures { result ≡ parts.spaced_number line.now at most }
+    ensures value { result ≡ parts.spaced_number line.now at most }
+    ensures within { IfOk result (λ n. n.next ≤ length line.now) }
 {
     if !reading::space_at(line, at) {
-        return Part::NotNumber { column: at + 1 };
+        return Err(at + 1);
     }
     reading::number_at(line, at + 1, most)
 }
 
 // Both numbers are read; the line ends.
-fn ended(line: &[u8], first: u32, second: u32, end: usize) -> Parts
+#[tactic(auto, unfolding(crate::specs::Parts::ended))]
+fn ended(line: &[u8], first: u32, second: u32, end: usize) -> Result<Numbers, usize>
     requires { end ≤ length line.now }
     ensures { result ≡ parts.ended line.now first second end }
 {
     if end != line.len() {
-        return Parts::Unfit(end + 1);
+        return Err(end + 1);
     }
-    fit(first, second, end)
+    Ok(Numbers {
+        first,
+        second,
+        hex: end,
+    })
 }
 
-fn one_number(line: &[u8], at: usize, most: u32) -> Parts
+#[tactic(auto, unfolding(crate::specs::Parts::one_number))]
+fn one_number(line: &[u8], at: usize, most: u32) -> Result<Numbers, usize>
     requires { at ≤ length line.now }
     ensures { result ≡ parts.one_number line.now at most }
 {
-    match spaced_number(line, at, most) {
-        Part::NotNumber { column } => Parts::Unfit(column),
-        Part::Number { value, next } => ended(line, value, 0, next),
-    }
+    let n = spaced_number(line, at, most)?;
+    ended(line, n.value, 0, n.next)
 }
 
-fn two_numbers(line: &[u8], at: usize, most: u32, second: u32) -> Parts
+#[tactic(auto, unfolding(crate::specs::Parts::two_numbers))]
+fn two_numbers(line: &[u8], at: usize, most: u32, second: u32) -> Result<Numbers, usize>
     requires { at ≤ length line.now }
     ensures { result ≡ parts.two_numbers line.now at most second }
 {
-    match spaced_number(line, at, most) {
-        Part::NotNumber { column } => Parts::Unfit(column),
-        Part::Number { value: first, next } => match spaced_number(line, next, second) {
-            Part::NotNumber { column } => Parts::Unfit(column),
-            Part::Number { value, next: end } => ended(line, first, value, end),
-        },
-    }
+    let first = spaced_number(line, at, most)?;
+    let other = spaced_number(line, first.next, second)?;
+    ended(line, first.value, other.value, other.next)
 }
 
 // The number is read already; HEX is "pairs of hex digits (possibly none)", to the line's end.
-#[tactic(auto, using(crate::proofs::Ways::hex_unpaired))]
-fn hex_behind(line: &[u8], first: u32, next: usize) -> Parts
+#[tactic(auto, using(text::proofs::Bounds::space_inside), unfolding(crate::specs::Parts::hex_behind, crate::specs::Parts::pairs))]
+fn hex_behind(line: &[u8], first: u32, next: usize) -> Result<Numbers, usize>
     requires { next ≤ length line.now }
-    ensures { result ≡ parts.hex_behind line.now first next }
+    ensures value { result ≡ parts.hex_behind line.now first next }
+    ensures within { IfOk result (λ n. n.hex ≤ length line.now) }
 {
     if !reading::space_at(line, next) {
-        return Parts::Unfit(next + 1);
+        return Err(next + 1);
     }
     let start = next + 1;
     let end = reading::hex_end(line, start);
     if end != line.len() {
-        return Parts::Unfit(end + 1);
+        return Err(end + 1);
     }
     if (end - start) % 2 != 0 {
-        return Parts::Unfit(end + 1);
+        return Err(end + 1);
     }
-    fit(first, 0, start)
+    Ok(Numbers {
+        first,
+        second: 0,
+        hex: start,
+    })
 }
 
-fn number_and_hex(line: &[u8], at: usize, most: u32) -> Parts
+#[tactic(auto, unfolding(crate::specs::Parts::number_and_hex))]
+fn number_and_hex(line: &[u8], at: usize, most: u32) -> Result<Numbers, usize>
     requires { at ≤ length line.now }
-    ensures { result ≡ parts.number_and_hex line.now at most }
+    ensures value { result ≡ parts.number_and_hex line.now at most }
+    ensures within { IfOk result (λ n. n.hex ≤ length line.now) }
 {
-    match spaced_number(line, at, most) {
-        Part::NotNumber { column } => Parts::Unfit(column),
-        Part::Number { value, next } => hex_behind(line, value, next),
-    }
+    let n = spaced_number(line, at, most)?;
+    hex_behind(line, n.value, n.next)
 }
 
 // The bytes lie within a buffer of that size, from the number on.
-fn hex_within(line: &[u8], at: usize, size: u32) -> Parts
+#[tactic(auto, unfolding(crate::specs::Parts::hex_within))]
+fn hex_within(line: &[u8], at: usize, size: u32) -> Result<Numbers, usize>
     requires { at ≤ length line.now }
     ensures { result ≡ parts.hex_within line.now at size }
 {
-    match number_and_hex(line, at, size) {
-        Parts::Unfit(column) => Parts::Unfit(column),
-        Parts::Fit(n) => {
-            if (size as usize) < (n.first as usize) + (line.len() - n.hex) / 2 {
-                return Parts::Unfit(at + 2);
-            }
-            Parts::Fit(n)
-        }
+    let n = number_and_hex(line, at, size)?;
+    if (size as usize) < (n.first as usize) + (line.len() - n.hex) / 2 {
+        return Err(at + 2);
     }
+    Ok(n)
 }
 
-pub fn parts_of(line: &[u8], at: usize, row: Row) -> Parts
+#[tactic(auto, unfolding(crate::specs::Parts::parts_of))]
+pub fn parts_of(line: &[u8], at: usize, row: Row) -> Result<Numbers, usize>
     requires { at ≤ length line.now }
     ensures { result ≡ parts.parts_of line.now at row }
 {

@@ -1,16 +1,8 @@
 // The table of the words: what each names, and which parts stand behind it.
-ghost use Rattle.std.specs.Prelude.{◌≡◌};
+ghost use Rattle.std.specs.Prelude.{◌≡◌, map};
 ghost use Rattle.script.specs.Table as table;
 
 use crate::{Call, Change, Show};
-use text::reading::same;
-
-// What a word names among the calls, which the programs have in common.
-#[derive(Clone, Copy)]
-pub enum Common {
-    Calls(Call),
-    Other,
-}
 
 // What a word of `series` names.
 #[derive(Clone, Copy)]
@@ -18,7 +10,6 @@ pub enum Word {
     Calls(Call),
     Shows(Show),
     Changes(Change),
-    Unknown,
 }
 
 // The parts behind a word, with their bounds: none; a number; two; a number and HEX; the same, where the bytes of HEX lie within a
@@ -66,62 +57,49 @@ pub(crate) fn change_row(change: Change) -> Row
     }
 }
 
-pub fn call_of(word: &[u8]) -> Common
+// What the first row with that word names.
+pub fn named<A: Copy>(rows: &[(&[u8], A)], word: &[u8]) -> Option<A>
+    ensures { result ≡ table.first_fit None word.now (map (λ r. table.named r.0.now (Some r.1)) rows.now) }
+{
+    rows.iter()
+        .find(|(name, _)| word == *name)
+        .map(|(_, meant)| *meant)
+}
+
+// The calls, which the programs have in common.
+const CALLS: [(&[u8], Call); 6] = [
+    (b"run", Call::Run),
+    (b"read", Call::Read),
+    (b"write", Call::Write),
+    (b"view", Call::View),
+    (b"reply", Call::Reply),
+    (b"registers", Call::Registers),
+];
+
+#[tactic(auto, unfolding(crate::specs::Table::call_of))]
+pub fn call_of(word: &[u8]) -> Option<Call>
     ensures { result ≡ table.call_of word.now }
 {
-    if same(word, b"run") {
-        return Common::Calls(Call::Run);
-    }
-    if same(word, b"read") {
-        return Common::Calls(Call::Read);
-    }
-    if same(word, b"write") {
-        return Common::Calls(Call::Write);
-    }
-    if same(word, b"view") {
-        return Common::Calls(Call::View);
-    }
-    if same(word, b"reply") {
-        return Common::Calls(Call::Reply);
-    }
-    if same(word, b"registers") {
-        return Common::Calls(Call::Registers);
-    }
-    Common::Other
+    named(&CALLS, word)
 }
 
-fn own_of(word: &[u8]) -> Word
-    ensures { result ≡ table.own_of word.now }
-{
-    if same(word, b"frames") {
-        return Word::Shows(Show::Frames);
-    }
-    if same(word, b"sum") {
-        return Word::Shows(Show::Sum);
-    }
-    if same(word, b"main") {
-        return Word::Changes(Change::Main);
-    }
-    if same(word, b"swap") {
-        return Word::Changes(Change::Swap);
-    }
-    if same(word, b"record") {
-        return Word::Changes(Change::Record);
-    }
-    if same(word, b"lend") {
-        return Word::Changes(Change::Lend);
-    }
-    if same(word, b"spare") {
-        return Word::Changes(Change::Spare);
-    }
-    Word::Unknown
-}
+// The words that `series` has behind them.
+const OWN: [(&[u8], Word); 7] = [
+    (b"frames", Word::Shows(Show::Frames)),
+    (b"sum", Word::Shows(Show::Sum)),
+    (b"main", Word::Changes(Change::Main)),
+    (b"swap", Word::Changes(Change::Swap)),
+    (b"record", Word::Changes(Change::Record)),
+    (b"lend", Word::Changes(Change::Lend)),
+    (b"spare", Word::Changes(Change::Spare)),
+];
 
-pub(crate) fn word_of(word: &[u8]) -> Word
+#[tactic(auto, unfolding(crate::specs::Table::word_of))]
+pub(crate) fn word_of(word: &[u8]) -> Option<Word>
     ensures { result ≡ table.word_of word.now }
 {
     match call_of(word) {
-        Common::Calls(c) => Word::Calls(c),
-        Common::Other => own_of(word),
+        Some(c) => Some(Word::Calls(c)),
+        None => named(&OWN, word),
     }
 }

@@ -12,7 +12,6 @@ use session::{Standing, Stretch};
 use std::io;
 use std::io::{Read, Write};
 use text::reading;
-use text::reading::Part;
 
 fn fail<E: Write>(errors: &mut E, message: &[u8]) -> io::Result<()>
     ensures { OnOk result (Appends (E.contents errors.old) (E.contents errors.new) message.now) }
@@ -43,8 +42,7 @@ fn go<W: Write>(
     };
     while at.place < script.len() {
         let next = session::speak(at, main, swap, script, out);
-        let filled = next.filled;
-        to.write_all(&out[..filled])?;
+        to.write_all(&out[..next.filled])?;
         at = next;
     }
     Ok(at.standing)
@@ -70,8 +68,7 @@ fn with_file<R: Read, W: Write, E: Write>(
     let mut swap = [0; 327680];
     let mut out = [0; 65536];
     let begun = session::begin(file, pages, &mut main, &mut swap, &mut out);
-    let filled = begun.filled;
-    to.write_all(&out[..filled])?;
+    to.write_all(&out[..begun.filled])?;
     if begun.goes_on {
         go(
             begun.standing,
@@ -113,23 +110,20 @@ fn main(rt: HostRuntime) -> io::Result<()> {
         );
     }
     let digits = files::argument(&rt, 2, &mut word);
-    let Part::Number { value, next } = reading::number_at(&word[..digits], 0, 4294967295) else {
-        return fail(
-            &mut errors,
-            b"series: MAIN_PAGES is a decimal number below 2^32\n",
-        );
+    let pages = match reading::number_at(&word[..digits], 0, u32::MAX) {
+        Ok(n) if n.next == digits => n.value,
+        _ => {
+            return fail(
+                &mut errors,
+                b"series: MAIN_PAGES is a decimal number below 2^32\n",
+            );
+        }
     };
-    if next != digits {
-        return fail(
-            &mut errors,
-            b"series: MAIN_PAGES is a decimal number below 2^32\n",
-        );
-    }
     let length = files::argument(&rt, 1, &mut name);
     match files::open_read(&rt, &name[..length]) {
         Ok(mut file) => with_descriptor(
             &mut file,
-            value,
+            pages,
             &mut rt.stdin(),
             &mut rt.stdout(),
             &mut errors,

@@ -2,14 +2,13 @@
 use mathlib.Core.Path.{◌≡◌, sym, ap, ◌∙◌}
 use mathlib.Core.List.{List, [], ◌∷◌}
 use Prim.Native.Nat.{ℕ}
+use Rattle.std.specs.Prelude.{Ok, Err}
 use Rattle.model.specs.State.{State}
-use Rattle.model.specs.Answers.{refusal_number, stop_number, stop_detail, run_numbers}
+use Rattle.model.specs.Answers.{refusal_number, stop_number, stop_detail, run_numbers, RunAnswer}
 use Rattle.model.specs.Console.{refused_line}
 use Rattle.model.specs.Calls.{RunOutcome, run_outcome}
-use Rattle.model.specs.declared.Stop.{Stop}
+use Rattle.model.specs.declared.Ran.{Ran}
 use Rattle.model.specs.declared.Refusal.{Refusal}
-use Rattle.model.specs.declared.RunAnswer.{RunAnswer}
-use Rattle.model.specs.declared.RunAnswer.TheVariants.{Ran, NotRun}
 use Rattle.answerlines.specs.Lines.{numbers_line}
 use Rattle.answerlines.proofs.Refused.{refused_text}
 use Rattle.script.specs.Vocabulary.{run_word}
@@ -21,15 +20,16 @@ abbrev pub line : ℕ → ℕ → ℕ → ℕ → ℕ → List ℕ
 line stop detail finished loads copied = numbers_line run_word (stop ∷ detail ∷ finished ∷ loads ∷ copied ∷ [])
 
 module _ (a : RunAnswer) (p : State) (o : RunOutcome) (e : run_outcome a p ≡ o) where
-  pub run_refused : {r : Refusal} {n : ℕ} → a ≡ NotRun r → n ≡ refusal_number r → refused_line n ≡ run_text o.numbers
+  pub run_refused : {r : Refusal} {n : ℕ} → a ≡ Err r → n ≡ refusal_number r → refused_line n ≡ run_text o.numbers
   run_refused {r} {n} g h =
       ap refused_line h ∙ refused_text r (line 0 0 0 0 0)
       ∙ ap (λ (b : RunAnswer). run_text (run_numbers b)) (sym g) ∙ ap (λ (x : RunOutcome). run_text x.numbers) e
 
-  pub run_ran : {s : Stop} {f l k stop detail : ℕ} → a ≡ Ran s f l k → stop ≡ stop_number s → detail ≡ stop_detail s
-      → line stop detail f l k ≡ run_text o.numbers
-  run_ran {s} {f} {l} {k} {stop} {detail} g h d =
-      ap (λ (n : ℕ). line n detail f l k) h ∙ ap (λ (n : ℕ). line (stop_number s) n f l k) d
+  pub run_ran : {r : Ran} {stop detail : ℕ} → a ≡ Ok r → stop ≡ stop_number r.stop → detail ≡ stop_detail r.stop
+      → line stop detail r.finished r.loads r.copied ≡ run_text o.numbers
+  run_ran {r} {stop} {detail} g h d =
+      ap (λ (n : ℕ). line n detail r.finished r.loads r.copied) h
+      ∙ ap (λ (n : ℕ). line (stop_number r.stop) n r.finished r.loads r.copied) d
       ∙ ap (λ (b : RunAnswer). run_text (run_numbers b)) (sym g) ∙ ap (λ (x : RunOutcome). run_text x.numbers) e
 
 -- the same answer, said otherwise

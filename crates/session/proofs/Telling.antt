@@ -15,7 +15,8 @@ use Rattle.script.specs.declared.Call.{Call}
 use Rattle.script.specs.declared.Show.{Show}
 use Rattle.script.specs.declared.Change.{Change}
 use Rattle.script.specs.declared.Line.{Line}
-use Rattle.script.specs.declared.Line.TheVariants.{Calls, Shows, Changes, Bad}
+use Rattle.script.specs.declared.Line.TheVariants.{Calls, Shows, Changes}
+use Rattle.std.specs.Prelude.{Result, Ok, Err}
 use Rattle.script.proofs.Asked.{rest_is}
 use Rattle.session.specs.Answers.{Says, answered, show_text}
 use Rattle.session.specs.Desk.{Desk, desk, lent, handed_back, changed, said_to, changed_by, spoken_by, spoken, told_of, Tells}
@@ -29,13 +30,13 @@ changed_as e n bytes d h = rw e h
 
 -- ---- a line l, and what it was read as
 module _ (number : ℕ) (l : List ℕ) where
-  by_line : {z x : Line} → z ≡ line_of l → z ≡ x → (d : Desk) → spoken_by x number l d ≡ spoken number l d
+  by_line : {z x : Result Line ℕ} → z ≡ line_of l → z ≡ x → (d : Desk) → spoken_by x number l d ≡ spoken number l d
   unfolding spoken
-  by_line read g d = ap (λ (y : Line). spoken_by y number l d) (sym g ∙ read)
+  by_line read g d = ap (λ (y : Result Line ℕ). spoken_by y number l d) (sym g ∙ read)
 
-  module _ (at : Standing) (main swap : List ℕ) {before after : List ℕ} {filled : ℕ} {r : Told} {z : Line} (read : z ≡ line_of l) where
+  module _ (at : Standing) (main swap : List ℕ) {before after : List ℕ} {filled : ℕ} {r : Told} {z : Result Line ℕ} (read : z ≡ line_of l) where
     -- a call; the lent bytes come back as it leaves them
-    pub call_told : (c : Call) (n : Numbers) → z ≡ Calls c n → {m : Machine} {to : ℕ} → r ≡ told_of m at.main at.swap to true
+    pub call_told : (c : Call) (n : Numbers) → z ≡ Ok (Calls c n) → {m : Machine} {to : ℕ} → r ≡ told_of m at.main at.swap to true
         → {ys zs : List ℕ} → Says before filled after to (state m ys zs)
         (answered c n (bytes_of (take (length l - n.hex) (drop n.hex l))) (lent (desk at main swap))) → Lent at
         → Tells before filled after r (ys ++ drop at.main main) (zs ++ drop at.swap swap) (spoken number l (desk at main swap)) × Lent r.standing
@@ -48,7 +49,7 @@ module _ (number : ℕ) (l : List ℕ) where
         )
 
     -- what is shown; everything stays as it was
-    pub show_told : (x : Show) → z ≡ Shows x → {to : ℕ} → r ≡ told_of at.machine at.main at.swap to true
+    pub show_told : (x : Show) → z ≡ Ok (Shows x) → {to : ℕ} → r ≡ told_of at.machine at.main at.swap to true
         → Appended before filled after to (show_text x (lent (desk at main swap))) → Lent at
         → Tells before filled after r main swap (spoken number l (desk at main swap)) × Lent r.standing
     unfolding spoken_by
@@ -59,7 +60,7 @@ module _ (number : ℕ) (l : List ℕ) where
         )
 
     -- what a change leaves
-    pub changed_told : (c : Change) (n : Numbers) → z ≡ Changes c n → {main' swap' : List ℕ}
+    pub changed_told : (c : Change) (n : Numbers) → z ≡ Ok (Changes c n) → {main' swap' : List ℕ}
         → Tells before filled after r main' swap' (changed_by c n (bytes_of (take (length l - n.hex) (drop n.hex l))) (desk at main swap))
         → Tells before filled after r main' swap' (spoken number l (desk at main swap))
     unfolding spoken_by
@@ -68,7 +69,7 @@ module _ (number : ℕ) (l : List ℕ) where
         rw (ap (λ (x : List ℕ). changed_by c n (bytes_of x) d) (rest_is l n.hex) ∙ by_line read g d) at told
 
     -- a line that is bad
-    pub bad_told : (column : ℕ) → z ≡ Bad column → {to : ℕ} → r ≡ told_of at.machine at.main at.swap to false
+    pub bad_told : (column : ℕ) → z ≡ Err column → {to : ℕ} → r ≡ told_of at.machine at.main at.swap to false
         → Appended before filled after to (bad_text number column) → Lent at
         → Tells before filled after r main swap (spoken number l (desk at main swap)) × Lent r.standing
     unfolding spoken_by

@@ -4,7 +4,8 @@ use mathlib.Core.List.{List}
 use Prim.Native.Nat.{ℕ, ◌*◌, ◌≤◌}
 use native.Mathlib.Omega.{arith}
 use lib.ListN.{length, drop, length-take}
-use Rattle.std.specs.Prelude.{if◌then◌else◌}
+use Rattle.std.specs.Prelude.{if◌then◌else◌, Ok, Err}
+use Rattle.model.specs.Answers.{Verdict}
 use Rattle.model.specs.Bytes.{page}
 use Rattle.model.specs.Pages.{swap_of}
 use Rattle.model.specs.Table.{entry, ppx, valid}
@@ -12,8 +13,6 @@ use Rattle.model.specs.State.{Memory, State}
 use Rattle.model.specs.Calls.{view_verdict, view_by, view_call, page_bytes}
 use Rattle.model.specs.declared.Shape.{Shape}
 use Rattle.model.specs.declared.VirtualPage.{VirtualPage}
-use Rattle.model.specs.declared.Verdict.{Verdict}
-use Rattle.model.specs.declared.Verdict.TheVariants.{Granted, Refused}
 
 page_short : (l : List ℕ) (p : ℕ) → length (page l p) ≤ 4096
 unfolding page
@@ -30,8 +29,8 @@ bytes_short s m x =
     (swap_of s x).0)
 
 by_short : (v : Verdict) (p : State) (x : VirtualPage) → length (view_by v p x).part ≤ 4096
-by_short Granted p x = bytes_short p.machine.shape p.memory x
-by_short (Refused r) p x = omega arith
+by_short (Ok tt) p x = bytes_short p.machine.shape p.memory x
+by_short (Err r) p x = omega arith
 
 pub view_short : (p : State) (x : VirtualPage) → length (view_call p x).part ≤ 4096
 unfolding view_call

@@ -1,5 +1,5 @@
 -- What stands between two lines, and what a line makes of it.
-use Rattle.std.specs.Prelude.{Bool, List, ◌++◌, ℕ, ◌+◌, leb, take, drop, if◌then◌else◌}
+use Rattle.std.specs.Prelude.{Bool, List, ◌++◌, ℕ, ◌+◌, leb, take, drop, Result, Ok, Err, if◌then◌else◌}
 use Rattle.laws.specs.Over.{over}
 use Rattle.model.specs.State.{State, state}
 use Rattle.model.specs.Pages.{virtual, entry_at}
@@ -20,7 +20,7 @@ use Rattle.script.specs.declared.Show.{Show}
 use Rattle.script.specs.declared.Change.{Change}
 use Rattle.script.specs.declared.Change.TheVariants.{Main, Swap, Record, Lend, Spare}
 use Rattle.script.specs.declared.Line.{Line}
-use Rattle.script.specs.declared.Line.TheVariants.{Calls, Shows, Changes, Bad}
+use Rattle.script.specs.declared.Line.TheVariants.{Calls, Shows, Changes}
 use Rattle.session.specs.Answers.{Answer, answered, show_text}
 use Rattle.session.specs.declared.Standing.{Standing}
 use Rattle.session.specs.declared.Told.{Told}
@@ -87,11 +87,11 @@ changed_by c n bytes d = onward (changed c n bytes d) (word_line (change_word c)
 abbrev pub bad_at : ℕ → ℕ → Desk → Spoken Desk
 bad_at number column d = ending d (bad_text number column)
 
-unfoldable pub spoken_by : Line → ℕ → List ℕ → Desk → Spoken Desk
-spoken_by (Calls c n) number l d = said_to c n (bytes_of (drop n.hex l)) d
-spoken_by (Shows x) number l d = shown_to x d
-spoken_by (Changes c n) number l d = changed_by c n (bytes_of (drop n.hex l)) d
-spoken_by (Bad column) number l d = bad_at number column d
+unfoldable pub spoken_by : Result Line ℕ → ℕ → List ℕ → Desk → Spoken Desk
+spoken_by (Ok (Calls c n)) number l d = said_to c n (bytes_of (drop n.hex l)) d
+spoken_by (Ok (Shows x)) number l d = shown_to x d
+spoken_by (Ok (Changes c n)) number l d = changed_by c n (bytes_of (drop n.hex l)) d
+spoken_by (Err column) number l d = bad_at number column d
 
 unfoldable pub spoken : ℕ → List ℕ → Desk → Spoken Desk
 spoken number l d = spoken_by (line_of l) number l d

@@ -1,12 +1,11 @@
 -- The program `series`: what it writes for an image, a number of main pages and a script.
-use Rattle.std.specs.Prelude.{true, ◌≡◌, List, ◌++◌, ℕ, ◌*◌, eqb, leb, length, replicate, if◌then◌else◌}
-use Rattle.model.specs.Answers.{refusal_number}
+use Rattle.std.specs.Prelude.{true, ◌≡◌, List, ◌++◌, ℕ, ◌*◌, eqb, leb, length, replicate, if◌then◌else◌, Ok, Err}
+use Rattle.model.specs.Answers.{refusal_number, Verdict}
 use Rattle.model.specs.Calls.{unless, StateOutcome}
 use Rattle.model.specs.Image.{ptl_of, start_of, frames_of, image_verdict, zero_machine, load_call}
 use Rattle.model.specs.Console.{refused_line}
 use Rattle.model.specs.declared.Refusal.TheVariants.{Room}
-use Rattle.model.specs.declared.Verdict.{Verdict}
-use Rattle.model.specs.declared.Verdict.TheVariants.{Granted, Refused}
+use Rattle.model.specs.declared.Written.{Written}
 use Rattle.answerlines.specs.Lines.{loaded_text}
 use Rattle.talk.specs.Script.{Spoken, onward, ending, Talk, talk_after}
 use Rattle.talk.specs.Stretch.{point, joined, Stretches}
@@ -16,7 +15,7 @@ use Rattle.session.specs.declared.Told.{Told}
 -- "A file longer than 263,256 bytes: `refused 7` by its length alone; MAIN_PAGES above 64: `refused 7` after 5 and 6."
 unfoldable pub admits : List ℕ → ℕ → Verdict
 admits file pages =
-    if leb (length file) 263256 then image_verdict file (unless (leb pages 64) Room Granted) else Refused Room
+    if leb (length file) 263256 then image_verdict file (unless (leb pages 64) Room (Ok tt)) else Err Room
 
 -- `refused N`, and no line of the script is done
 abbrev pub turned_away : ℕ → List ℕ → List ℕ → Spoken Desk
@@ -33,8 +32,8 @@ abbrev pub lent_for : List ℕ → ℕ → List ℕ → List ℕ → Desk
 lent_for file pages main swap = desk (standing zero_machine (4096 * pages) (4096 * ptl_of file)) main swap
 
 abbrev pub begun_by : Verdict → List ℕ → Desk → Spoken Desk
-begun_by Granted file d = loaded_into d file (load_call file (lent d).memory)
-begun_by (Refused r) file d = turned_away (refusal_number r) d.main d.swap
+begun_by (Ok tt) file d = loaded_into d file (load_call file (lent d).memory)
+begun_by (Err r) file d = turned_away (refusal_number r) d.main d.swap
 
 unfoldable pub begun : List ℕ → ℕ → List ℕ → List ℕ → Spoken Desk
 begun file pages main swap = begun_by (admits file pages) file (lent_for file pages main swap)
@@ -54,10 +53,10 @@ WholeText = (file : List ℕ) (pages : ℕ) (script : List ℕ) (ts : List (List
     → series_talk file pages script ≡ record { text = (begun_with file pages).text ++ joined ts; desk = last }
 
 -- what the reader answered for the file
-pub record Read (file : List ℕ) (ptl start frames : ℕ) : Type 0 where
-  pub ptl_is : ptl ≡ ptl_of file
-  pub start_is : start ≡ start_of file
-  pub frames_is : frames ≡ frames_of file
+pub record Read (file : List ℕ) (w : Written) : Type 0 where
+  pub ptl_is : w.ptl ≡ ptl_of file
+  pub start_is : w.start ≡ start_of file
+  pub frames_is : w.frames ≡ frames_of file
 
 -- what code hands back says that the image is refused, whatever stands in the buffers
 abbrev pub TurnedAway : ℕ → List ℕ → List ℕ → Told → Type 0

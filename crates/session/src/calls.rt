@@ -11,7 +11,7 @@ ghost use Rattle.session.specs.Answers as answers;
 
 use answerlines::{numbers_line, registers_line, verdict_line};
 use answers::refusal_number;
-use model::{Machine, RunAnswer, VirtualPage};
+use model::{Machine, VirtualPage};
 use script::Call;
 use script::parts::Numbers;
 use text::lines::refused_line;
@@ -31,20 +31,16 @@ fn run(m: Machine, main: &mut [u8], swap: &mut [u8], limit: u32, out: &mut [u8],
         (answers.ran (calls.run_call (state m main.old swap.old) limit)) }
 {
     let result = machine::run(m, main, swap, limit);
-    let after = result.machine;
-    let answer = result.answer;
-    match answer {
-        RunAnswer::NotRun(refusal) => left(after, refused_line(out, at, refusal_number(refusal))),
-        RunAnswer::Ran {
-            stop,
-            finished,
-            loads,
-            copied,
-        } => {
-            let number = answers::stop_number(stop);
-            let why = [number, answers::stop_detail(stop)];
-            let counts = [finished, loads, copied];
-            left(after, numbers_line(out, at, b"run", &why, &counts))
+    match result.answer {
+        Err(refusal) => left(
+            result.machine,
+            refused_line(out, at, refusal_number(refusal)),
+        ),
+        Ok(ran) => {
+            let number = answers::stop_number(ran.stop);
+            let why = [number, answers::stop_detail(ran.stop)];
+            let counts = [ran.finished, ran.loads, ran.copied];
+            left(result.machine, numbers_line(out, at, b"run", &why, &counts))
         }
     }
 }
@@ -79,9 +75,10 @@ pub fn write(
     let k = digits.len() / 2;
     reading::put_bytes(digits, &mut space, 0);
     let handed = machine::host_write(m, main, swap, va, &space[..k]);
-    let after = handed.machine;
-    let verdict = handed.verdict;
-    left(after, verdict_line(out, at, verdict, b"write", b""))
+    left(
+        handed.machine,
+        verdict_line(out, at, handed.verdict, b"write", b""),
+    )
 }
 
 // `view PAGE`
@@ -109,9 +106,10 @@ pub fn reply(m: Machine, n: Numbers, out: &mut [u8], at: usize) -> Done
         × Appended out.old at out.new result.filled (answers.reply_text (calls.reply_call m n.first n.second)) }
 {
     let handed = machine::reply(m, n.first, n.second);
-    let after = handed.machine;
-    let verdict = handed.verdict;
-    left(after, verdict_line(out, at, verdict, b"reply", b""))
+    left(
+        handed.machine,
+        verdict_line(out, at, handed.verdict, b"reply", b""),
+    )
 }
 
 // `registers`
@@ -119,18 +117,13 @@ pub fn registers(m: Machine, out: &mut [u8], at: usize) -> Done
     requires { at + 512 ≤ length out.old }
     ensures { (result.machine ≡ m) × Appended out.old at out.new result.filled (answers.registers_text m) }
 {
-    let pcs = m.pcs;
-    let gpr = m.gpr;
-    left(m, registers_line(out, at, pcs, gpr))
+    left(m, registers_line(out, at, m.pcs, m.gpr))
 }
 
 pub fn left(m: Machine, filled: usize) -> Done
     ensures { (result.machine ≡ m) × (result.filled ≡ filled) }
 {
-    Done {
-        machine: m,
-        filled: filled,
-    }
+    Done { machine: m, filled }
 }
 
 pub(crate) fn answer(

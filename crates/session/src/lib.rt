@@ -7,9 +7,8 @@ mod shows;
 mod spare;
 mod step;
 
-ghost use Rattle.std.specs.Prelude.{◌≤◌, length};
+ghost use Rattle.std.specs.Prelude.{◌≤◌, length, Ok};
 ghost use Rattle.model.specs.Answers.{refusal_number};
-ghost use Rattle.model.specs.declared.Verdict.TheVariants.{Granted};
 ghost use Rattle.session.specs.Desk.{Tells};
 ghost use Rattle.session.specs.Ready.{Lent, Room};
 ghost use Rattle.session.specs.Script.{Goes};
@@ -18,7 +17,7 @@ ghost use Rattle.session.specs.Promises.{BeginPromise};
 
 use answerlines::numbers_line;
 use answers::refusal_number;
-use model::{ImageAnswer, Machine, Refusal, Verdict};
+use model::{Machine, Refusal, Written};
 use text::lines::refused_line;
 
 // What stands between two lines: the record, and how many bytes of each buffer are lent.
@@ -52,38 +51,32 @@ fn turned_away(refusal: Refusal, out: &mut [u8]) -> Told
     ensures { series.TurnedAway (refusal_number refusal) out.old out.new result }
 {
     let handed = loading::fresh::refused(refusal);
-    let nothing = handed.machine;
     let filled = refused_line(out, 0, refusal_number(refusal));
-    step::told(nothing, 0, 0, filled, false)
+    step::told(handed.machine, 0, 0, filled, false)
 }
 
 // The image is well formed, and the main pages asked for are 64 at most: only loading may refuse it.
 fn load(
     file: &[u8],
-    ptl: u32,
-    start: u32,
-    frames: u32,
+    written: Written,
     pages: u32,
     main: &mut [u8],
     swap: &mut [u8],
     out: &mut [u8],
 ) -> Told
-    requires { series.Read file.now ptl start frames × Room main.old swap.old out.old × (pages ≤ 64) × (ptl ≤ 80) }
+    requires { series.Read file.now written × Room main.old swap.old out.old × (pages ≤ 64) × (written.ptl ≤ 80) }
     ensures { Tells out.old 0 out.new result main.new swap.new
-        (series.begun_by Granted file.now (series.lent_for file.now pages main.old swap.old)) }
+        (series.begun_by (Ok tt) file.now (series.lent_for file.now pages main.old swap.old)) }
 {
     let a = 4096 * (pages as usize);
-    let s = 4096 * (ptl as usize);
+    let s = 4096 * (written.ptl as usize);
     let handed = loading::load(file, &mut main[..a], &mut swap[..s]);
-    let machine = handed.machine;
-    let verdict = handed.verdict;
-    match verdict {
-        Verdict::Refused(refusal) => turned_away(refusal, out),
-        Verdict::Granted => {
-            let pages = [ptl];
-            let numbers = [start, frames];
-            let filled = numbers_line(out, 0, b"loaded", &pages, &numbers);
-            step::told(machine, a, s, filled, true)
+    match handed.verdict {
+        Err(refusal) => turned_away(refusal, out),
+        Ok(()) => {
+            let numbers = [written.start, written.frames];
+            let filled = numbers_line(out, 0, b"loaded", &[written.ptl], &numbers);
+            step::told(handed.machine, a, s, filled, true)
         }
     }
 }
@@ -99,12 +92,12 @@ pub fn begin(file: &[u8], pages: u32, main: &mut [u8], swap: &mut [u8], out: &mu
         return turned_away(Refusal::Room, out);
     }
     match image::read(file) {
-        ImageAnswer::NotImage(refusal) => turned_away(refusal, out),
-        ImageAnswer::Image { ptl, start, frames } => {
+        Err(refusal) => turned_away(refusal, out),
+        Ok(written) => {
             if 64 < pages {
                 return turned_away(Refusal::Room, out);
             }
-            load(file, ptl, start, frames, pages, main, swap, out)
+            load(file, written, pages, main, swap, out)
         }
     }
 }
@@ -130,15 +123,14 @@ pub fn speak(
         let end = text::scan::find(script, place, script.len(), 10);
         number += 1;
         let told = step::step(at, main, swap, &script[place..end], number, out, filled);
-        let next = told.standing;
-        at = next;
+        at = told.standing;
         filled = told.filled;
         place = if told.goes_on { end + 1 } else { script.len() };
     }
     Stretch {
         standing: at,
-        number: number,
-        place: place,
-        filled: filled,
+        number,
+        place,
+        filled,
     }
 }

@@ -14,6 +14,6 @@ pub(crate) fn set_spare(s: Shape, main: &mut [u8], lent: usize, x: VirtualPage, 
     if lent < at + 4 {
         return;
     }
-    let e = words::word_at(main, at);
-    words::put_word(main, at, e / 4096 * 4096 + 8 * value + e % 8);
+    let e = words::number_at::<4>(main, at);
+    words::put_number::<4>(main, at, e / 4096 * 4096 + 8 * value + e % 8);
 }

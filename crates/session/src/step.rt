@@ -89,18 +89,18 @@ pub(crate) fn step(
     let a = at.main;
     let s = at.swap;
     match script::parse(line) {
-        Line::Calls(c, n) => {
+        Ok(Line::Calls(c, n)) => {
             let hex = n.hex;
             let digits = &line[hex..];
             let done = calls::answer(c, n, m, &mut main[..a], &mut swap[..s], digits, out, filled);
             let after = done.machine;
             told(after, a, s, done.filled, true)
         }
-        Line::Shows(x) => {
+        Ok(Line::Shows(x)) => {
             let to = shows::show(x, m, &main[..a], &swap[..s], out, filled);
             told(m, a, s, to, true)
         }
-        Line::Changes(c, n) => {
+        Ok(Line::Changes(c, n)) => {
             let hex = n.hex;
             let next = change(at, main, swap, c, n, &line[hex..]);
             let word = text::scan::find(line, 0, line.len(), 32);
@@ -110,7 +110,7 @@ pub(crate) fn step(
                 goes_on: true,
             }
         }
-        Line::Bad(column) => {
+        Err(column) => {
             let bad = [number, column as u32];
             told(m, a, s, numbers_line(out, filled, b"bad", &bad, &[]), false)
         }

@@ -40,13 +40,10 @@ pub(crate) fn frames_clean(
         × ((hand marks : ℕ) → tests.held_in_table s.ptl (book_of used hand held.now marks) ≡ true) }
     ensures { (hand : ℕ) → result ≡ tests.frames_clean s (book_of used hand held.now marks) (memory main.now swap.now) }
 {
-    let mut f: u32 = 0;
-    while f < used {
-        let i = f as usize;
-        if !clean(s, marks, f, held[i], main, swap) {
+    for f in 0..used {
+        if !clean(s, marks, f, held[f as usize], main, swap) {
             return false;
         }
-        f += 1;
     }
     true
 }

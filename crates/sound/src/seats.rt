@@ -15,10 +15,8 @@ pub(crate) fn frames_seated(s: Shape, used: u32, held: &[u32], main: &[u8]) -> b
     ensures { (hand marks : ℕ) → result ≡ (tests.held_in_table s.ptl (book_of used hand held.now marks)
         && tests.frames_seated s (book_of used hand held.now marks) main.now) }
 {
-    let mut f: u32 = 0;
-    while f < used {
-        let i = f as usize;
-        let x = held[i];
+    for f in 0..used {
+        let x = held[f as usize];
         if x >= s.ptl {
             return false;
         }
@@ -26,12 +24,9 @@ pub(crate) fn frames_seated(s: Shape, used: u32, held: &[u32], main: &[u8]) -> b
         if e % 2 != 1 {
             return false;
         }
-        let p = pages::ppx(e);
-        let q = pages::frame_at(s, f);
-        if p.0 != q.0 {
+        if pages::ppx(e) != pages::frame_at(s, f) {
             return false;
         }
-        f += 1;
     }
     true
 }
@@ -41,11 +36,9 @@ pub(crate) fn valid_entries(s: Shape, main: &[u8]) -> u32
     requires { Fit s (length main.now) }
     ensures { result ≡ valid_below s main.now s.ptl }
 {
-    let mut n: u32 = 0;
-    let mut x: u32 = 0;
-    while x < s.ptl {
+    let mut n = 0;
+    for x in 0..s.ptl {
         n += table::entry(s, main, pages::virtual_page(x)) % 2;
-        x += 1;
     }
     n
 }

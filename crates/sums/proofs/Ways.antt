@@ -1,111 +1,102 @@
 -- One law for each way out of the code, over plain variables.
 use mathlib.Core.Bool.{Bool, true, false, not, ◌&&◌, true≢false}
-use mathlib.Core.Path.{◌≡◌, refl, sym, ◌∙◌}
+use mathlib.Core.Path.{◌≡◌, refl, sym, ap, subst, ◌∙◌}
 use mathlib.Core.List.{List}
 use native.Mathlib.Omega.{arith}
 use Prim.Native.Nat.{ℕ, zero, suc, ◌+◌, ◌-◌, ◌≤◌, ◌<◌, ◌^◌}
 use lib.Dec.{eqb}
-use lib.ListN.{length}
-use borrow.Author.Tests.{le-ltb, le-leb, lt-leb, eq-eqb, ne_eqb, eqb-true, not-true, not-false}
-use Rattle.std.specs.Prelude.{if◌then◌else◌}
+use lib.ListN.{length, take, drop, drop_of_length-le, length-drop}
+use lib.Seq.{take_all}
+use borrow.Author.Tests.{eq-eqb, ne_eqb, eqb-true, not-true, not-false}
+use Rattle.std.specs.Prelude.{Result, Ok, Err, take_while, if◌then◌else◌}
 use Rattle.laws.proofs.Choice.{chosen, and_left, and_right}
-use Rattle.model.specs.declared.Refusal.{Refusal}
-use Rattle.model.specs.declared.Refusal.TheVariants.{Operand, Overflow}
+use Rattle.model.specs.declared.Refusal.TheVariants.{Operand}
 use Rattle.text.specs.Reading as reading
-use Rattle.text.specs.declared.reading.Part.{Part}
-use Rattle.notation.specs.Sums.{byte_at, skipped, numbered, number_at, kept, joined, terms, start_of, negated, closed, valued, factor, more, read_at, term_at, sum_at}
-use Rattle.notation.specs.declared.Parsed.{Parsed}
-use Rattle.notation.specs.declared.Parsed.TheVariants.{Value, Wrong}
-use Rattle.sums.specs.Small.{Small}
+use Rattle.text.specs.Reading.{front}
+use Rattle.text.proofs.Fronts.{front_taken}
+use Rattle.text.specs.declared.reading.Number.{Number}
+use Rattle.notation.specs.Sums.{is_blank, byte_at, skipped, numbered, number_at, joined, terms, start_of, negated, closed, valued, factor, more, read_at, term_at, sum_at}
+use Rattle.notation.specs.Answers.{Parsed, wrong}
+use Rattle.notation.specs.declared.Wrong.{Wrong}
 use Rattle.grammar.proofs.Lies.{behind_from}
 use Rattle.grammar.proofs.Sums.{skip_from, byte_inside, number_value, term_is, terms_is, joined_value, term_value, sum_value}
 
+-- ---- blanks
+module _ (s : List ℕ) (at : ℕ) where
+  pub none_taken : length s ≤ at → at ≡ skipped s at
+  unfolding skipped front
+  none_taken h = rw (drop_of_length-le s h) (omega arith)
+
+  pub taken : {n : ℕ} → n ≡ length (take_while is_blank (take (length s - at) (drop at s))) → at + n ≡ skipped s at
+  unfolding skipped
+  taken e =
+      ap (λ n. at + n) (e ∙ ap (λ l. length (take_while is_blank l)) (take_all (length s - at) (drop at s) (omega (arith, length-drop at s)))
+      ∙ ap length (front_taken is_blank (drop at s)))
+
 -- ---- a number
 module _ (s : List ℕ) (at most : ℕ) where
-  pub no_digit : reading.is_digit (byte_at s at) ≡ false → Wrong Operand at ≡ number_at s at most
+  pub no_digit : reading.is_digit (byte_at s at) ≡ false → Err (wrong Operand at) ≡ number_at s at most
   unfolding number_at
   no_digit e = simp e
 
-  pub digits : reading.is_digit (byte_at s at) ≡ true → {p : Part} → p ≡ reading.number_at s at most → numbered at p ≡ number_at s at most
+  pub digits : reading.is_digit (byte_at s at) ≡ true → {p : Result Number ℕ} → p ≡ reading.number_at s at most → numbered at p ≡ number_at s at most
   unfolding number_at
   digits e h = simp (e, h)
 
--- ---- 32 bits
-module _ (at v n : ℕ) where
-  pub kept_low : v < 2147483648 → Wrong Overflow at ≡ kept at v n
-  unfolding kept
-  kept_low h = simp lt-leb
-
-  pub kept_high : 2147483648 ≤ v → 6442450944 ≤ v → Wrong Overflow at ≡ kept at v n
-  unfolding kept
-  kept_high h1 h2 = simp (le-leb, le-ltb)
-
-  pub kept_value : 2147483648 ≤ v → v < 6442450944 → Value (v - 2147483648) n ≡ kept at v n
-  unfolding kept
-  kept_value h1 h2 = simp le-leb
-
--- ---- where a term begins; b is the byte that was read there
-module _ (s : List ℕ) (at : ℕ) {b : ℕ} (eb : b ≡ byte_at s at) where
-  pub start_here : (b ≡ 45 → ⊥) → at ≡ start_of s at
-  start_here h = rw (← eb) (simp ne_eqb)
-
-  pub start_behind : b ≡ 45 → skipped s (at + 1) ≡ start_of s at
-  start_behind h = rw (← eb) (simp eq-eqb)
-
-  -- a byte that is no 0 stands inside
-  pub seen : 0 < b → at < length s
-  seen h = byte_inside s at (omega (arith, eb))
-
--- ---- the parenthesis behind a sum
-module _ (s : List ℕ) {v n at b : ℕ} {p : Parsed} (ep : p ≡ Value v n) (ea : at ≡ skipped s n) (eb : b ≡ byte_at s at) where
-  pub unclosed : (b ≡ 41 → ⊥) → Wrong Operand at ≡ closed s p
-  unclosed h = rw (ep, ← ea, ← eb) (simp ne_eqb)
-
-  pub closing : b ≡ 41 → Value v (at + 1) ≡ closed s p
-  closing h = rw (ep, ← ea, ← eb) (simp eq-eqb)
+-- ---- a byte that is no 0 stands inside
+pub seen : (s : List ℕ) (at : ℕ) {b : ℕ} → b ≡ byte_at s at → 0 < b → at < length s
+seen s at eb h = byte_inside s at (omega (arith, eb))
 
 -- ---- values that fit
-small : (p : Parsed) → ((v n : ℕ) → p ≡ Value v n → v < 2 ^ 32) → Small p
-small (Value v n) h = h v n refl
-small (Wrong r p) h = tt
+pub number_small : (s : List ℕ) (at v n : ℕ) → Ok (v, n) ≡ number_at s at 2147483647 → v ≤ 2147483647
+number_small s at v n e = (number_value s at 2147483647 v n (sym e)).2
 
-valued_fits : (p : Parsed) → ((v n : ℕ) → p ≡ Value v n → v ≤ 2147483647) → Small (valued p)
-valued_fits (Value v n) h = omega (arith, h v n refl)
-valued_fits (Wrong r p) h = tt
+abbrev Keeps : ℕ → Parsed → Type 0
+Keeps v (Ok (w, m)) = w ≡ v
+Keeps v (Err w) = Unit
 
-closed_fits : (s : List ℕ) (p : Parsed) → Small p → Small (closed s p)
-closed_fits s (Value v n) h = chosen Small (eqb (byte_at s (skipped s n)) 41) (λ _. h) (λ _. tt)
-closed_fits s (Wrong r p) h = tt
+closed_keeps : (s : List ℕ) (v n : ℕ) → Keeps v (closed s (Ok (v, n)))
+closed_keeps s v n = chosen (Keeps v) (eqb (byte_at s (skipped s n)) 41) (λ _. refl) (λ _. tt)
 
-module _ (s : List ℕ) {p : Parsed} where
-  pub number_small : (at : ℕ) → p ≡ number_at s at 2147483647 → Small p
-  number_small at e = small p (λ v n h. omega (arith, (number_value s at 2147483647 v n (sym e ∙ h)).2))
-
-  pub valued_small : (at : ℕ) → {q : Parsed} → p ≡ number_at s at 2147483647 → q ≡ valued p → Small q
-  valued_small at e f = rw f (valued_fits p (λ v n h. (number_value s at 2147483647 v n (sym e ∙ h)).2))
-
-  pub closed_small : (at d : ℕ) → {q : Parsed} → p ≡ sum_at s at d → q ≡ closed s p → Small q
-  closed_small at d e f = rw f (closed_fits s p (small p (λ v n h. (sum_value s at d v n (sym e ∙ h)).2)))
+pub closed_small : (s : List ℕ) (at d v n w m : ℕ) → Ok (v, n) ≡ sum_at s at d → Ok (w, m) ≡ closed s (Ok (v, n)) → w < 2 ^ 32
+closed_small s at d v n w m e f =
+    omega (arith, (sum_value s at d v n (sym e)).2, subst (Keeps v) (sym f) (closed_keeps s v n))
 
 -- ---- a term
-wrong_stays : (at : ℕ) (minus : Bool) (r : Refusal) (p : ℕ) → Wrong r p ≡ negated at minus (Wrong r p)
-wrong_stays at true r p = refl
-wrong_stays at false r p = refl
+wrong_stays : (at : ℕ) (minus : Bool) (w : Wrong) → Err w ≡ negated at minus (Err w)
+wrong_stays at true w = refl
+wrong_stays at false w = refl
 
 module _ (s : List ℕ) (at d : ℕ) {b from f : ℕ} (eb : b ≡ byte_at s at) (ef : from ≡ start_of s at) (eh : f ≡ byte_at s from) where
   placed : {q r : Parsed} → q ≡ factor (read_at s) s from d → r ≡ negated at (eqb b 45) q → r ≡ term_at s at d
   placed eq er = er ∙ rw (eq, ef, eb) (sym (term_is s at d))
 
-  pub term_number : (f ≡ 40 → ⊥) → {p q r : Parsed} → p ≡ number_at s from 2147483647 → q ≡ valued p → r ≡ negated at (eqb b 45) q
-      → r ≡ term_at s at d
-  term_number h ep eq = placed (eq ∙ rw (ep, ← eh) (simp ne_eqb))
+  refused : {w : Wrong} → Err w ≡ factor (read_at s) s from d → Err w ≡ term_at s at d
+  refused {w} e = placed {q = Err w} e (wrong_stays at (eqb b 45) w)
 
-  pub term_deep : f ≡ 40 → d ≡ 0 → Wrong Operand from ≡ term_at s at d
-  term_deep h z = placed {q = Wrong Operand from} (rw (← eh) (simp eq-eqb)) (wrong_stays at (eqb b 45) Operand from)
+  pub term_digits : (f ≡ 40 → ⊥) → {w : Wrong} → Err w ≡ number_at s from 2147483647 → Err w ≡ term_at s at d
+  term_digits h e = refused (ap valued e ∙ rw (← eh) (simp ne_eqb))
 
-  pub term_group : f ≡ 40 → (d ≡ 0 → ⊥) → {i : ℕ} {p q r : Parsed} → i ≡ skipped s (from + 1) → p ≡ sum_at s i (d - 1) → q ≡ closed s p
-      → r ≡ negated at (eqb b 45) q → r ≡ term_at s at d
-  term_group h z ei ep eq = placed (eq ∙ rw (ep, ei, ← eh) (simp (eq-eqb, ne_eqb)))
+  pub term_number : (f ≡ 40 → ⊥) → {v n : ℕ} {r : Parsed} → Ok (v, n) ≡ number_at s from 2147483647
+      → r ≡ negated at (eqb b 45) (Ok (v + 2147483648, n)) → r ≡ term_at s at d
+  term_number h e = placed (ap valued e ∙ rw (← eh) (simp ne_eqb))
+
+  pub term_deep : f ≡ 40 → d ≡ 0 → Err (wrong Operand from) ≡ term_at s at d
+  term_deep h z = refused (rw (← eh) (simp eq-eqb))
+
+  module _ (h : f ≡ 40) (z : d ≡ 0 → ⊥) {i : ℕ} (ei : i ≡ skipped s (from + 1)) where
+    inner : {p : Parsed} → p ≡ sum_at s i (d - 1) → closed s p ≡ factor (read_at s) s from d
+    inner e = rw (e, ei, ← eh) (simp (eq-eqb, ne_eqb))
+
+    pub term_inner : {w : Wrong} → Err w ≡ sum_at s i (d - 1) → Err w ≡ term_at s at d
+    term_inner e = refused (inner e)
+
+    pub term_open : {v n : ℕ} {w : Wrong} → Ok (v, n) ≡ sum_at s i (d - 1) → Err w ≡ closed s (Ok (v, n)) → Err w ≡ term_at s at d
+    term_open e f = refused (f ∙ inner e)
+
+    pub term_group : {v n u m : ℕ} {r : Parsed} → Ok (v, n) ≡ sum_at s i (d - 1) → Ok (u, m) ≡ closed s (Ok (v, n))
+        → r ≡ negated at (eqb b 45) (Ok (u, m)) → r ≡ term_at s at d
+    term_group e f = placed (f ∙ inner e)
 
 -- ---- a sign, as the code tests for none
 abbrev pub no_sign : ℕ → Bool
@@ -135,20 +126,20 @@ pub record Further (s : List ℕ) (start at acc : ℕ) (minus : Bool) (d next w 
 
 -- ---- a sum: what is read behind `acc` where a term is `t` and the sum so far is `j`
 module _ (s : List ℕ) (start at acc : ℕ) (minus : Bool) (d : ℕ) {t : Parsed} (et : t ≡ term_at s at d) where
-  pub sum_stays : {r : Refusal} {p : ℕ} → t ≡ Wrong r p → t ≡ read_at s (terms start at acc minus d)
-  sum_stays h = h ∙ sym (terms_is s start at acc minus d ∙ rw (← et, h))
+  pub sum_stays : {w : Wrong} → t ≡ Err w → Err w ≡ read_at s (terms start at acc minus d)
+  sum_stays h = sym (terms_is s start at acc minus d ∙ rw (← et, h))
 
-  module _ {v n : ℕ} (tv : t ≡ Value v n) {j : Parsed} (ej : j ≡ joined start acc minus v n) where
-    pub join_stays : {r : Refusal} {p : ℕ} → j ≡ Wrong r p → j ≡ read_at s (terms start at acc minus d)
-    join_stays h = h ∙ sym (terms_is s start at acc minus d ∙ rw (← et, tv) (rw (← ej, h)))
+  module _ {v n : ℕ} (tv : t ≡ Ok (v, n)) {j : Parsed} (ej : j ≡ joined start acc minus v n) where
+    pub join_stays : {w : Wrong} → j ≡ Err w → Err w ≡ read_at s (terms start at acc minus d)
+    join_stays h = sym (terms_is s start at acc minus d ∙ rw (← et, tv) (rw (← ej, h)))
 
-    module _ {w m : ℕ} (jv : j ≡ Value w m) where
+    module _ {w m : ℕ} (jv : j ≡ Ok (w, m)) where
       onward : read_at s (terms start at acc minus d) ≡ more (read_at s) s start d w m
       onward = terms_is s start at acc minus d ∙ rw (← et, tv) (rw (← ej, jv))
 
       -- c is the byte behind it
       module _ {sign c : ℕ} (es : sign ≡ skipped s m) (ec : c ≡ byte_at s sign) where
-        pub sum_ends : no_sign c ≡ true → Value w m ≡ read_at s (terms start at acc minus d)
+        pub sum_ends : no_sign c ≡ true → Ok (w, m) ≡ read_at s (terms start at acc minus d)
         sum_ends h =
             let plus : eqb c 43 ≡ false = not-true (eqb c 43) (and_left (not (eqb c 43)) (not (eqb c 45)) h) in
             let less : eqb c 45 ≡ false = not-true (eqb c 45) (and_right (not (eqb c 43)) (not (eqb c 45)) h) in
@@ -160,7 +151,7 @@ module _ (s : List ℕ) (start at acc : ℕ) (minus : Bool) (d : ℕ) {t : Parse
             let term = term_value s at d v n (sym et ∙ tv) in
             let total = joined_value start acc minus v n w m (sym ej ∙ jv) in
             let far : at < sign = omega (arith, term.0, total.0, es, skip_from s m) in
-            let on = signed c (λ (b : Bool). read_at s (terms start next w b d)) (Value w m) h in
+            let on = signed c (λ (b : Bool). read_at s (terms start next w b d)) (Ok (w, m)) h in
             record {
               past = omega (arith, en, behind_from s sign);
               inside = omega (arith, sign_inside s sign ec h);

@@ -1,6 +1,6 @@
 -- What is read lies within the text, and no number is above its bound.
 use mathlib.Core.Bool.{true, ◌&&◌}
-use mathlib.Core.Path.{◌≡◌, refl, sym, subst, ◌∙◌}
+use mathlib.Core.Path.{◌≡◌, refl}
 use mathlib.Core.List.{List}
 use Prim.Native.Nat.{ℕ, ◌+◌, ◌≤◌, ◌<◌}
 use native.Mathlib.Omega.{arith}
@@ -9,14 +9,14 @@ use lib.ListN.{length, get_or, drop}
 use borrow.Author.Tests.{leb-true}
 use Rattle.laws.proofs.Choice.{and_left, chosen}
 use Rattle.text.specs.Reading.{front, is_space, is_digit, is_hex, decimal, number_of, number_at, hex_end}
-use Rattle.text.specs.declared.reading.Part.{Part}
-use Rattle.text.specs.declared.reading.Part.TheVariants.{Number, NotNumber}
+use Rattle.text.specs.declared.reading.Number.{Number}
+use Rattle.std.specs.Prelude.{Result, Ok, Err}
 use Rattle.text.proofs.Fronts.{front_inside, inside}
 
 -- what it is to lie within a text of n bytes; a column that does not fit is at most the one behind its end
-abbrev pub PartIn : ℕ → ℕ → Part → Type 0
-PartIn n most (Number v next) = (next ≤ n) × (v ≤ most)
-PartIn n most (NotNumber column) = column ≤ n + 1
+abbrev pub PartIn : ℕ → ℕ → Result Number ℕ → Type 0
+PartIn n most (Ok p) = (p.next ≤ n) × (p.value ≤ most)
+PartIn n most (Err column) = column ≤ n + 1
 
 module _ (l : List ℕ) (at : ℕ) where
   pub space_inside : is_space (get_or l at 0) ≡ true → at < length l
@@ -33,7 +33,3 @@ module _ (l : List ℕ) (at : ℕ) where
         let ds = front is_digit (drop at l) in
         chosen (PartIn (length l) most) (leb (decimal 0 ds) most && leb 1 (length ds))
         (λ t. (front_inside is_digit l at h, leb-true _ _ (and_left _ _ t))) (λ _. omega arith)
-
-    -- the same, of what a reader answered
-    pub number_known : {p q : Part} → p ≡ number_at l at most → p ≡ q → PartIn (length l) most q
-    number_known e g = subst (PartIn (length l) most) (sym e ∙ g) number_in

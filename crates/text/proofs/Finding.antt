@@ -1,31 +1,38 @@
--- Laws of the search for a byte, met at each place of a part of a list.
-use mathlib.Core.Path.{◌≡◌, ap, ◌∙◌}
-use mathlib.Core.List.{List, ◌∷◌}
-use Prim.Native.Nat.{ℕ, suc, ◌+◌, ◌≤◌, ◌<◌}
-use native.Mathlib.Numerals.{add-one}
-use native.Mathlib.Omega.{arith}
-use borrow.Author.Tests.{eq-eqb, ne_eqb}
-use lib.ListN.{length, get_or, take, drop, drop_of_length-le}
-use lib.Seq.{drop-cons, get_or-take, length-take-le}
+-- Where a byte stands, in std's words.
+use mathlib.Core.Path.{◌≡◌, ap, ◌∙◌, refl}
+use mathlib.Core.List.{List, [], ◌∷◌}
+use mathlib.Core.Bool.{Bool, true, false}
+use Prim.Native.Nat.{ℕ, ◌+◌, ◌-◌, ◌≤◌}
+use lib.Dec.{eqb, ltb}
+use lib.ListN.{length, take, length-drop}
+use lib.Seq.{length-take-le}
+use Rattle.std.proofs.lemmas.List.Sums.{prefix_len-le-length}
+use Rattle.std.proofs.Common.{cond, not, arith, Option, Some, None}
+use Rattle.std.specs.Option.{unwrap_or}
+use borrow.Author.Tests.{ltb-false}
+use Rattle.std.specs.List.{position_or_len}
 use Rattle.text.specs.Scan.{slice, index_after, index_of}
 
-module _ (l : List ℕ) (at to b : ℕ) (fits : to ≤ length l) where
-  -- the byte at a place stands before the others of the part
-  slice_cons : at < to → slice at to l ≡ get_or l at 0 ∷ slice (at + 1) to l
-  unfolding slice
-  slice_cons h =
-      let n : length (take to l) ≡ to = length-take-le to l fits in
-      let q : at < length (take to l) = omega (arith, n) in
-      rw (add-one) (drop-cons (take to l) at 0 q ∙ ap (λ x. x ∷ drop (suc at) (take to l)) (get_or-take to l at 0 h))
+after_more : (t : Bool) {n m : ℕ} → n ≡ m → cond (not t) (1 + n) 0 ≡ index_after t m
+unfolding index_after
+after_more true e = refl
+after_more false e = omega (arith, e)
 
-  pub found_here : at < to → get_or l at 0 ≡ b → index_of b (slice at to l) ≡ 0
-  unfolding index_of index_after
-  found_here h e = rw (slice_cons h) (simp (eq-eqb (get_or l at 0) b e))
+pub position_found : (b : ℕ) (l : List ℕ) → position_or_len (λ c. eqb c b) l ≡ index_of b l
+unfolding index_of
+position_found b [] = refl
+position_found b (x ∷ l) = after_more (eqb x b) (position_found b l)
 
-  pub found_further : at < to → (get_or l at 0 ≡ b → ⊥) → index_of b (slice at to l) ≡ index_of b (slice (at + 1) to l) + 1
-  unfolding index_of index_after
-  found_further h n = rw (slice_cons h) (simp (ne_eqb (get_or l at 0) b n, add-one))
+pub found_or : {r : Option ℕ} (p n d : ℕ) → r ≡ cond (ltb p n) (Some p) None → p ≤ n → n ≡ d → unwrap_or r d ≡ p
+found_or p n d e h k = ap (λ (o : Option ℕ). unwrap_or o d) e ∙ pick (ltb p n) refl
+  where
+    pick : (b : Bool) → ltb p n ≡ b → unwrap_or (cond b (Some p) None) d ≡ p
+    pick true t = refl
+    pick false t = omega (arith, ltb-false p n t)
 
-  pub found_nowhere : to ≤ at → index_of b (slice at to l) ≡ 0
-  unfolding slice index_of
-  found_nowhere h = rw (drop_of_length-le (take to l) {i = at} (omega (arith, length-take-le to l fits)))
+pub position_inside : (b : ℕ) (l : List ℕ) → position_or_len (λ c. eqb c b) l ≤ length l
+position_inside b l = prefix_len-le-length (λ c. not (eqb c b)) l
+
+pub length-slice : (l : List ℕ) (from to : ℕ) → from ≤ to → to ≤ length l → length (slice from to l) ≡ to - from
+unfolding slice
+length-slice l from to h k = length-drop from (take to l) ∙ ap (λ n. n - from) (length-take-le to l k)

@@ -1,14 +1,17 @@
 -- The longest front whose bytes pass a test, met at each place of a list: one byte more, or the end.
-use mathlib.Core.Bool.{Bool, true, false}
-use mathlib.Core.Path.{◌≡◌, sym, ap, ◌∙◌}
+use mathlib.Core.Bool.{Bool, true, false, cond}
+use mathlib.Core.Path.{◌≡◌, refl, sym, ap, ◌∙◌}
 use mathlib.Core.List.{List, [], ◌∷◌}
-use Prim.Native.Nat.{ℕ, zero, suc, ◌+◌, ◌≤◌, ◌<◌}
-use native.Mathlib.Numerals.{add-one}
+use Prim.Native.Nat.{ℕ, zero, suc, ◌+◌, ◌-◌, ◌≤◌, ◌<◌}
+use native.Mathlib.Numerals.{add-one, one-add}
 use native.Mathlib.Omega.{arith}
-use lib.ListN.{length, get_or, drop, length-drop, get_or-eq_default}
-use lib.Seq.{drop-cons, drop-nil}
+use lib.ListN.{length, get_or, take, drop, length-drop, get_or-eq_default}
+use lib.Seq.{drop-cons, drop-nil, take_all, get_or-take}
 use Rattle.std.specs.Prelude.{if◌then◌else◌}
-use Rattle.text.specs.Reading.{front}
+use Rattle.std.specs.List.{prefix_len}
+use Rattle.std.proofs.lemmas.List.Folds.{length-prefix_len}
+use Rattle.std.proofs.lemmas.List.Sums.{prefix_len_passes}
+use Rattle.text.specs.Reading.{front, is_hex, hex_end}
 
 module _ (f : ℕ → Bool) where
   pub front_more : (l : List ℕ) (i : ℕ) → i < length l → f (get_or l i 0) ≡ true
@@ -31,6 +34,25 @@ module _ (f : ℕ → Bool) where
   front_short [] = omega arith
   front_short (x ∷ xs) = shorter (f x) (length xs) x (front f xs) (front_short xs)
 
+  -- the front, in std's words
+  taken_more : (b : Bool) (x : ℕ) (xs : List ℕ) (n : ℕ) {r : List ℕ} → take n xs ≡ r
+      → take (cond b (1 + n) 0) (x ∷ xs) ≡ (if b then x ∷ r else [])
+  taken_more true x xs n e = rw one-add (ap (λ (r : List ℕ). x ∷ r) e)
+  taken_more false x xs n e = refl
+
+  pub front_taken : (l : List ℕ) → take (prefix_len f l) l ≡ front f l
+  unfolding front
+  front_taken [] = refl
+  front_taken (x ∷ xs) = taken_more (f x) x xs (prefix_len f xs) (front_taken xs)
+
+  pub length-front : (l : List ℕ) → prefix_len f l ≡ length (front f l)
+  length-front l = sym (length-prefix_len f l) ∙ ap length (front_taken l)
+
+  pub front_passes : (l : List ℕ) (i : ℕ) → i < length (front f l) → f (get_or (front f l) i 0) ≡ true
+  front_passes l i h =
+      let k : i < prefix_len f l = omega (arith, length-front l) in
+      sym (ap (λ (x : List ℕ). f (get_or x i 0)) (front_taken l)) ∙ ap f (get_or-take (prefix_len f l) l i 0 k) ∙ prefix_len_passes f l i 0 k
+
   -- the front that begins at a place ends within the list
   pub front_inside : (l : List ℕ) (i : ℕ) → i ≤ length l → i + length (front f (drop i l)) ≤ length l
   front_inside l i h = omega (arith, front_short (drop i l), length-drop i l)
@@ -43,3 +65,11 @@ module _ (f : ℕ → Bool) where
   inside [] i z t = let e : ◌≡◌ {A = ℕ} 0 1 = cc in omega arith
   inside (x ∷ xs) zero z t = omega arith
   inside (x ∷ xs) (suc i) z t = omega (arith, inside xs i z t)
+
+pub hex_from : (l : List ℕ) (at n : ℕ) → at ≤ length l → n ≡ length (front is_hex (take (length l - at) (drop at l)))
+    → (at + n ≡ hex_end l at) × (at ≤ at + n) × (at + n ≤ length l)
+unfolding hex_end
+hex_from l at n h e =
+    let r = take_all (length l - at) (drop at l) (omega (arith, length-drop at l)) in
+    let k = e ∙ ap (λ (x : List ℕ). length (front is_hex x)) r in
+    (omega arith, omega arith, omega (arith, front_inside is_hex l at h))

@@ -1,16 +1,19 @@
 -- A number, digit by digit.
 use mathlib.Core.Bool.{true}
-use mathlib.Core.Path.{◌≡◌, refl, sym, ap, ◌∙◌}
+use mathlib.Core.Path.{◌≡◌, refl, ap, ◌∙◌}
 use mathlib.Core.List.{List, [], ◌∷◌}
 use Prim.Native.Nat.{ℕ, ◌+◌, ◌-◌, ◌*◌, ◌≤◌, ◌<◌}
+use native.Mathlib.Numerals.{add-one}
 use native.Mathlib.Omega.{arith}
 use lib.Dec.{leb, leb-zero}
-use lib.ListN.{length, get_or, drop}
+use lib.ListN.{length, get_or, take, drop, length-drop, drop_of_length-le}
+use lib.Seq.{drop-cons, take_all}
 use borrow.Author.Tests.{le-leb, lt-leb, leb-true}
+use Rattle.std.specs.Prelude.{Result, Ok, Err}
 use Rattle.laws.proofs.Choice.{and_left}
-use Rattle.text.specs.Reading.{front, is_digit, decimal, number_of}
-use Rattle.text.specs.declared.reading.Part.TheVariants.{Number, NotNumber}
-use Rattle.text.proofs.Fronts.{front_more, inside}
+use Rattle.text.specs.Reading.{front, is_digit, decimal, number_of, number_at}
+use Rattle.text.specs.declared.reading.Number.{Number}
+use Rattle.text.proofs.Fronts.{front_passes, inside}
 
 -- more digits make no number smaller
 pub decimal_grows : (v : ℕ) (ds : List ℕ) → v ≤ decimal v ds
@@ -18,44 +21,53 @@ unfolding decimal
 decimal_grows v [] = omega arith
 decimal_grows v (c ∷ cs) = omega (arith, decimal_grows (10 * v + (c - 48)) cs)
 
--- after the digits before i, which say v
-pub record Reading (l : List ℕ) (at most v i : ℕ) : Type 0 where
-  pub from : at ≤ i
-  pub inside : i ≤ length l
-  pub small : v ≤ most
-  pub value : decimal v (front is_digit (drop i l)) ≡ decimal 0 (front is_digit (drop at l))
-  pub place : i + length (front is_digit (drop i l)) ≡ at + length (front is_digit (drop at l))
+-- the digit at a place is read
+pub decimal_more : (v : ℕ) (ds : List ℕ) (i : ℕ) → i < length ds
+    → decimal (10 * v + (get_or ds i 0 - 48)) (drop (i + 1) ds) ≡ decimal v (drop i ds)
+unfolding decimal
+decimal_more v ds i h = rw (drop-cons ds i 0) (simp add-one)
+
+-- all digits are read
+pub decimal_all : (v : ℕ) (ds : List ℕ) (i : ℕ) → length ds ≤ i → decimal v (drop i ds) ≡ v
+unfolding decimal
+decimal_all v ds i h = rw (drop_of_length-le ds h)
+
+abbrev number : ℕ → ℕ → Result Number ℕ
+number v next = Ok (record { value = v; next = next })
+
+abbrev unfit : ℕ → Result Number ℕ
+unfit column = Err column
 
 module _ (ds : List ℕ) (at most : ℕ) where
-  pub number_large : most < decimal 0 ds → NotNumber (at + 1) ≡ number_of ds at most
+  pub number_large : most < decimal 0 ds → unfit (at + 1) ≡ number_of ds at most
   unfolding number_of
   number_large h = simp lt-leb
 
-  pub number_none : ds ≡ [] → NotNumber (at + 1) ≡ number_of ds at most
+  pub number_none : ds ≡ [] → unfit (at + 1) ≡ number_of ds at most
   unfolding number_of decimal
   number_none h = simp (h, leb-zero)
 
-  pub number_read : (v i : ℕ) → decimal 0 ds ≡ v → at + length ds ≡ i → v ≤ most → at < i → Number v i ≡ number_of ds at most
+  pub number_read : (v i : ℕ) → decimal 0 ds ≡ v → at + length ds ≡ i → v ≤ most → at < i → number v i ≡ number_of ds at most
   unfolding number_of
   number_read v i e p h k =
       let n : 1 ≤ length ds = omega arith in
       simp (e, p, le-leb)
 
-module _ {l : List ℕ} {at most v i : ℕ} (r : Reading l at most v i) where
-  pub one_more : i < length l → is_digit (get_or l i 0) ≡ true
-      → decimal (10 * v + (get_or l i 0 - 48)) (front is_digit (drop (i + 1) l)) ≡ decimal 0 (front is_digit (drop at l))
-  unfolding decimal
-  one_more h t = sym (ap (decimal v) (front_more is_digit l i h t)) ∙ r.value
+-- the digits ds from a place on
+module _ (l ds : List ℕ) (at most : ℕ) (h : at ≤ length l) (e : ds ≡ front is_digit (take (length l - at) (drop at l))) where
+  pub of_digits : {r : Result Number ℕ} → r ≡ number_of ds at most → r ≡ number_at l at most
+  unfolding number_at
+  of_digits q =
+      q ∙ ap (λ (x : List ℕ). number_of x at most) (e ∙ ap (front is_digit) (take_all (length l - at) (drop at l) (omega (arith, length-drop at l))))
 
-  pub one_further : i < length l → is_digit (get_or l i 0) ≡ true
-      → i + 1 + length (front is_digit (drop (i + 1) l)) ≡ at + length (front is_digit (drop at l))
-  one_further h t = omega (arith, ap length (front_more is_digit l i h t), r.place)
-
-module _ (l : List ℕ) (i : ℕ) (t : is_digit (get_or l i 0) ≡ true) where
-  pub digit_inside : i < length l
+  pub digit_high : (i : ℕ) → i < length ds → 48 ≤ get_or ds i 0
   unfolding is_digit
-  digit_inside = inside is_digit l i refl t
+  digit_high i k =
+      let t = front_passes is_digit (take (length l - at) (drop at l)) i (omega (arith, ap length e)) in
+      let d : is_digit (get_or ds i 0) ≡ true = ap (λ (x : List ℕ). is_digit (get_or x i 0)) e ∙ t in
+      leb-true _ _ (and_left (leb 48 (get_or ds i 0)) (leb (get_or ds i 0) 57) d)
 
-  pub digit_low : 48 ≤ get_or l i 0
-  unfolding is_digit
-  digit_low = leb-true _ _ (and_left (leb 48 (get_or l i 0)) (leb (get_or l i 0) 57) t)
+-- a digit lies within the line
+pub digit_inside : (l : List ℕ) (i : ℕ) → is_digit (get_or l i 0) ≡ true → i < length l
+unfolding is_digit
+digit_inside l i t = inside is_digit l i refl t

@@ -1,14 +1,19 @@
--- Two words compared byte by byte.
+-- Two words compared: `==` answers what the definition says; words of other lengths differ.
 use mathlib.Core.Bool.{Bool, true, false, ◌&&◌}
 use mathlib.Core.Path.{◌≡◌, refl, sym, ap}
 use mathlib.Core.List.{List, [], ◌∷◌}
-use Prim.Native.Nat.{ℕ, suc, ◌+◌, ◌≤◌, ◌<◌}
-use native.Mathlib.Numerals.{add-one}
+use Prim.Native.Nat.{ℕ, suc}
 use lib.Dec.{eqb}
-use lib.ListN.{length, get_or, drop, drop_of_length-le}
-use lib.Seq.{drop-cons}
-use borrow.Author.Tests.{eq-eqb, ne_eqb}
+use lib.ListN.{length}
+use Rattle.std.specs.Str.{bytes_eq}
 use Rattle.model.specs.Bytes.{same}
+
+pub equal_same : (a b : List ℕ) → bytes_eq a b ≡ same a b
+unfolding same
+equal_same [] [] = refl
+equal_same [] (y ∷ ys) = refl
+equal_same (x ∷ xs) [] = refl
+equal_same (x ∷ xs) (y ∷ ys) = ap (λ t. eqb x y && t) (equal_same xs ys)
 
 and_false : (a b : Bool) → b ≡ false → (a && b) ≡ false
 and_false true b h = h
@@ -20,17 +25,3 @@ unequal [] [] h = absurd (h refl)
 unequal [] (y ∷ ys) h = refl
 unequal (x ∷ xs) [] h = refl
 unequal (x ∷ xs) (y ∷ ys) h = sym (and_false (eqb x y) (same xs ys) (sym (unequal xs ys (λ e. h (ap suc e)))))
-
-module _ (a b : List ℕ) (i : ℕ) where
-  pub byte_same : i < length a → i < length b → get_or a i 0 ≡ get_or b i 0
-      → same (drop i a) (drop i b) ≡ same (drop (i + 1) a) (drop (i + 1) b)
-  unfolding same
-  byte_same h k e = rw (drop-cons a i 0, drop-cons b i 0) (simp (eq-eqb _ _ e, add-one))
-
-  pub byte_other : i < length a → i < length b → (get_or a i 0 ≡ get_or b i 0 → ⊥) → same (drop i a) (drop i b) ≡ false
-  unfolding same
-  byte_other h k e = rw (drop-cons a i 0, drop-cons b i 0) (simp (ne_eqb _ _ e))
-
-  pub all_same : length a ≤ i → length b ≤ i → same (drop i a) (drop i b) ≡ true
-  unfolding same
-  all_same h k = rw (drop_of_length-le a h, drop_of_length-le b k)

@@ -1,8 +1,7 @@
 -- What is read in a text: a number in decimal, the end of a row of hex digits, bytes in pairs of hex digits. Places count from 0,
 -- columns from 1. Whether two words are the same is `same` of the model's Bytes.
-use Rattle.std.specs.Prelude.{Bool, ◌&&◌, ◌||◌, List, [], ◌∷◌, ℕ, ◌+◌, ◌-◌, ◌*◌, eqb, leb, length, drop, if◌then◌else◌}
-use Rattle.text.specs.declared.reading.Part.{Part}
-use Rattle.text.specs.declared.reading.Part.TheVariants.{Number, NotNumber}
+use Rattle.std.specs.Prelude.{Bool, ◌&&◌, ◌||◌, List, [], ◌∷◌, ℕ, ◌+◌, ◌-◌, ◌*◌, eqb, leb, length, drop, Result, Ok, Err, if◌then◌else◌}
+use Rattle.text.specs.declared.reading.Number.{Number}
 
 -- the longest front of the list whose bytes all pass the test
 unfoldable pub front : (ℕ → Bool) → List ℕ → List ℕ
@@ -27,11 +26,11 @@ decimal v [] = v
 decimal v (c ∷ cs) = decimal (10 * v + (c - 48)) cs
 
 -- of these digits, at a place: at most `most`, and of at least one digit; else the column of the first
-unfoldable pub number_of : List ℕ → ℕ → ℕ → Part
+unfoldable pub number_of : List ℕ → ℕ → ℕ → Result Number ℕ
 number_of ds at most =
-    if leb (decimal 0 ds) most && leb 1 (length ds) then Number (decimal 0 ds) (at + length ds) else NotNumber (at + 1)
+    if leb (decimal 0 ds) most && leb 1 (length ds) then Ok (record { value = decimal 0 ds; next = at + length ds }) else Err (at + 1)
 
-unfoldable pub number_at : List ℕ → ℕ → ℕ → Part
+unfoldable pub number_at : List ℕ → ℕ → ℕ → Result Number ℕ
 number_at l at most = number_of (front is_digit (drop at l)) at most
 
 -- ---- bytes in pairs of hex digits

@@ -1,7 +1,6 @@
 -- What it is to put bytes into a buffer from a place on; and bytes in hexadecimal.
-use Rattle.std.specs.Prelude.{◌≡◌, List, [], ◌∷◌, ℕ, ◌+◌, ◌/◌, ◌%◌, ◌≤◌, ltb, length, if◌then◌else◌}
+use Rattle.std.specs.Prelude.{◌≡◌, List, [], ◌∷◌, ℕ, ◌+◌, ◌/◌, ◌%◌, ◌≤◌, ltb, length, if◌then◌else◌, Ok}
 use Rattle.model.specs.Answers.{verdict_numbers, RunNumbers}
-use Rattle.model.specs.declared.Verdict.TheVariants.{Granted}
 use Rattle.laws.specs.Over.{over}
 
 -- `after` is the buffer with the bytes over it from `at` on, all of them within it, and `to` the place behind them
@@ -22,4 +21,4 @@ hex_of (b ∷ bs) = hex_digit (b / 16) ∷ hex_digit (b % 16) ∷ hex_of bs
 -- the numbers of a run that is not refused, as far as the four lines say them: no line has the pages copied back
 abbrev pub numbers_of : ℕ → ℕ → ℕ → ℕ → RunNumbers
 numbers_of stop detail finished loads =
-    record { verdict = verdict_numbers Granted; stop = stop; detail = detail; finished = finished; loads = loads; copied = 0 }
+    record { verdict = verdict_numbers (Ok tt); stop = stop; detail = detail; finished = finished; loads = loads; copied = 0 }

@@ -14,12 +14,9 @@ pub fn put(out: &mut [u8], at: usize, bytes: &[u8]) -> usize
     requires { at + length bytes.now ≤ length out.old }
     ensures { text.Appended out.old at out.new result bytes.now }
 {
-    let mut i = 0;
-    while i < bytes.len() {
-        out[at + i] = bytes[i];
-        i += 1;
-    }
-    at + i
+    let to = at + bytes.len();
+    out[at..to].copy_from_slice(bytes);
+    to
 }
 
 // n in decimal: one digit, and `more` others at most.
@@ -57,13 +54,11 @@ pub fn put_hex(out: &mut [u8], at: usize, bytes: &[u8]) -> usize
     ensures { text.Appended out.old at out.new result (text.hex_of bytes.now)
         × (result ≡ at + 2 * length bytes.now) }
 {
-    let mut i = 0;
     let mut to = at;
-    while i < bytes.len() {
-        out[to] = hex_digit(bytes[i] / 16);
-        out[to + 1] = hex_digit(bytes[i] % 16);
+    for b in bytes {
+        out[to] = hex_digit(*b / 16);
+        out[to + 1] = hex_digit(*b % 16);
         to += 2;
-        i += 1;
     }
     to
 }

@@ -1,6 +1,6 @@
 -- The worked texts of the makers' notation, as one table and one statement about the definitions: each line is taken as a word or refused at
 -- a column, and words are listed as texts. The checker computes it.
-use Rattle.std.specs.Prelude.{Bool, true, false, ◌&&◌, List, [], ◌∷◌, ◌++◌, ℕ, ◌+◌, T}
+use Rattle.std.specs.Prelude.{Bool, ◌&&◌, List, [], ◌∷◌, ℕ, ◌+◌, T, Ok, Err}
 use Prim.Native.String.{String}
 use Rattle.model.specs.Choice.{passes}
 use Rattle.model.specs.Answers.{refusal_number}
@@ -13,8 +13,7 @@ use Rattle.notation.specs.Sums.{is_blank, skipped, number_at, kept, read_by, rea
 use Rattle.notation.specs.Line.{fitted, read_piece, ended, read_pieces, instruction_at, line_at, line_of}
 use Rattle.notation.specs.Text.{lines, Reading, words, bad, read_from, read_text}
 use Rattle.notation.specs.Listing.{value_text, piece_text, pieces_text, filled, by_row, listed, listing}
-use Rattle.notation.specs.declared.Parsed.{Parsed}
-use Rattle.notation.specs.declared.Parsed.TheVariants.{Value, Wrong}
+use Rattle.notation.specs.Answers.{Parsed}
 
 infix 4 ◌is◌
 abbrev ◌is◌ : List ℕ → List ℕ → Bool
@@ -23,8 +22,8 @@ a is b = same a b
 -- ---- answers as lists of numbers
 -- 0 and the word, or the refusal and the column
 abbrev answered : Parsed → List ℕ
-answered (Value w n) = 0 ∷ w ∷ []
-answered (Wrong r place) = refusal_number r ∷ (place + 1) ∷ []
+answered (Ok (w, n)) = 0 ∷ w ∷ []
+answered (Err w) = refusal_number w.refusal ∷ (w.place + 1) ∷ []
 
 -- 0 and the words, or the refusal, the line and the column
 abbrev told : Reading → List ℕ

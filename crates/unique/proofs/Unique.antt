@@ -4,11 +4,10 @@ use mathlib.Core.List.{List}
 use Prim.Native.Nat.{ℕ}
 use denote.Ref.{Bor}
 use Rattle.model.specs.State.{state}
-use Rattle.model.specs.Answers.{verdict_numbers}
+use Rattle.model.specs.Answers.{verdict_numbers, Verdict}
 use Rattle.model.specs.Calls.{RunOutcome, run_outcome, run_call, ReadOutcome, read_call, StateOutcome, write_call, ReplyOutcome, reply_call}
 use Rattle.model.specs.Image.{load_call}
 use Rattle.model.specs.Parts.{Part, PartOf}
-use Rattle.model.specs.declared.Verdict.{Verdict}
 use Rattle.model.specs.declared.RunResult.{RunResult}
 use Rattle.model.specs.declared.Handed.{Handed}
 use Rattle.laws.proofs.Numbers.{refusal_told, verdict_told, stop_told, run_told, image_told}

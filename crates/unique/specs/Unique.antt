@@ -3,25 +3,20 @@
 use Rattle.std.specs.Prelude.{◌≡◌, List, ℕ}
 use Rattle.std.specs.Borrow.{Bor}
 use Rattle.model.specs.State.{Memory, State}
-use Rattle.model.specs.Answers.{stop_number, stop_detail, refusal_number, verdict_numbers, run_numbers, image_numbers}
+use Rattle.model.specs.Answers.{stop_number, stop_detail, refusal_number, verdict_numbers, run_numbers, image_numbers, Verdict, RunAnswer, ImageAnswer}
 use Rattle.model.specs.Promises as promises
 use Rattle.model.specs.declared.Stop.{Stop}
 use Rattle.model.specs.declared.Refusal.{Refusal}
-use Rattle.model.specs.declared.Verdict.{Verdict}
-use Rattle.model.specs.declared.RunAnswer.{RunAnswer}
-use Rattle.model.specs.declared.ImageAnswer.{ImageAnswer}
 use Rattle.model.specs.declared.VirtualPage.{VirtualPage}
 use Rattle.model.specs.declared.FrameBook.{FrameBook}
 use Rattle.model.specs.declared.Machine.{Machine}
 use Rattle.plainmodel.specs.State.{PlainState}
-use Rattle.plainmodel.specs.Calls.{plain_numbers}
+use Rattle.plainmodel.specs.Calls.{plain_numbers, PlainAnswer}
 use Rattle.plainmodel.specs.Promises as plain
-use Rattle.plainmodel.specs.declared.PlainAnswer.{PlainAnswer}
 use Rattle.plainmodel.specs.declared.Plain.{Plain}
 use Rattle.notation.specs.Calls.{assemble_numbers, list_numbers}
 use Rattle.notation.specs.Promises as notation
-use Rattle.notation.specs.declared.AssembleAnswer.{AssembleAnswer}
-use Rattle.notation.specs.declared.ListAnswer.{ListAnswer}
+use Rattle.notation.specs.Answers.{AssembleAnswer, ListAnswer}
 use Rattle.image.specs.Hand as hand
 use Rattle.image.specs.declared.at_hand.Image.{Image}
 use Rattle.imagewords.specs.Image.{ImagePromise}

@@ -1,7 +1,7 @@
 // Runs the worked values, compares each with what must come out, and prints a line for it.
 #![tactic(auto)]
 
-use model::{RunAnswer, RunResult, Stop};
+use model::{RunResult, Stop};
 use std::io;
 use std::io::Write;
 
@@ -16,32 +16,18 @@ fn say<W: Write>(to: &mut W, name: &[u8], right: bool) -> io::Result<()> {
 }
 
 fn run_number(r: RunResult) -> u32 {
-    let a = r.answer;
-    match a {
-        RunAnswer::Ran {
-            stop: _,
-            finished: _,
-            loads: _,
-            copied: _,
-        } => 0,
-        RunAnswer::NotRun(k) => answers::refusal_number(k),
-    }
+    answers::verdict_number(r.answer.map(|_| ()))
 }
 
 // The run stopped by this trap, with so many instructions finished and pages loaded.
-fn trapped(r: RunResult, trap: u32, finished_by: u32, loaded: u32) -> bool {
-    let a = r.answer;
-    match a {
-        RunAnswer::Ran {
-            stop,
-            finished,
-            loads,
-            copied: _,
-        } => match stop {
-            Stop::Trap(n) => n == trap && finished == finished_by && loads == loaded,
-            _ => false,
-        },
-        RunAnswer::NotRun(_) => false,
+fn trapped(r: RunResult, trap: u32, finished: u32, loads: u32) -> bool {
+    match r.answer {
+        Ok(ran) => {
+            matches!(ran.stop, Stop::Trap(n) if n == trap)
+                && ran.finished == finished
+                && ran.loads == loads
+        }
+        Err(_) => false,
     }
 }
 
@@ -54,20 +40,20 @@ fn put_trailer(file: &mut [u8], pages: u32, start: u32, frames: u32) {
         return;
     }
     let at = file.len() - 24;
-    words::put_word(file, at, 24 + pages);
-    words::put_word(file, at + 4, 24 + pages + 4096 * pages);
-    words::put_word(file, at + 8, pages);
-    words::put_word(file, at + 12, start);
-    words::put_word(file, at + 16, frames);
-    words::put_word(file, at + 20, 1);
+    words::put_number::<4>(file, at, 24 + pages);
+    words::put_number::<4>(file, at + 4, 24 + pages + 4096 * pages);
+    words::put_number::<4>(file, at + 8, pages);
+    words::put_number::<4>(file, at + 12, start);
+    words::put_number::<4>(file, at + 16, frames);
+    words::put_number::<4>(file, at + 20, 1);
 }
 
 // "Image of one page, rights 3, start 0, frames 0, the three words above at 0, 4, 8."
 fn small_image(frames: u32) -> [u8; 4121] {
     let mut file = [0u8; 4121];
-    words::put_word(&mut file, 0, 0x24010007);
-    words::put_word(&mut file, 4, 0xAC010040);
-    words::put_word(&mut file, 8, 0xF8000005);
+    words::put_number::<4>(&mut file, 0, 0x24010007);
+    words::put_number::<4>(&mut file, 4, 0xAC010040);
+    words::put_number::<4>(&mut file, 8, 0xF8000005);
     file[4096] = 3;
     put_trailer(&mut file, 1, 0, frames);
     file
@@ -76,13 +62,13 @@ fn small_image(frames: u32) -> [u8; 4121] {
 // A form on pages 0 and 1 with its code on page 2: it reads page 1 and traps, then page 3, then the bytes at 4095, 4096 and 4097.
 fn form_image() -> [u8; 16412] {
     let mut file = [0u8; 16412];
-    words::put_word(&mut file, 8192, 0x90041000);
-    words::put_word(&mut file, 8196, 0xF8000001);
-    words::put_word(&mut file, 8200, 0x90053000);
-    words::put_word(&mut file, 8204, 0x90010FFF);
-    words::put_word(&mut file, 8208, 0x90021000);
-    words::put_word(&mut file, 8212, 0x90031001);
-    words::put_word(&mut file, 8216, 0xF8000002);
+    words::put_number::<4>(&mut file, 8192, 0x90041000);
+    words::put_number::<4>(&mut file, 8196, 0xF8000001);
+    words::put_number::<4>(&mut file, 8200, 0x90053000);
+    words::put_number::<4>(&mut file, 8204, 0x90010FFF);
+    words::put_number::<4>(&mut file, 8208, 0x90021000);
+    words::put_number::<4>(&mut file, 8212, 0x90031001);
+    words::put_number::<4>(&mut file, 8216, 0xF8000002);
     file[16384] = 3;
     file[16385] = 3;
     file[16386] = 1;
@@ -97,20 +83,17 @@ fn small<W: Write>(to: &mut W) -> io::Result<()> {
     let mut main = [0u8; 20480];
     let mut swap = [0u8; 4096];
     let l = loading::load(&file, &mut main, &mut swap);
-    let v = l.verdict;
     say(
         to,
         b"the small image is loaded",
-        answers::verdict_number(v) == 0,
+        answers::verdict_number(l.verdict) == 0,
     )?;
-    let m = l.machine;
-    let r = machine::run(m, &mut main, &mut swap, 1000);
+    let r = machine::run(l.machine, &mut main, &mut swap, 1000);
     let after = r.machine;
-    let p = after.pcs;
     say(
         to,
         b"the small image: stop 1 5, finished 3, loads 1, dpc 12",
-        trapped(r, 5, 3, 1) && p.dpc == 12,
+        trapped(r, 5, 3, 1) && after.pcs.dpc == 12,
     )?;
     say(
         to,
@@ -135,8 +118,11 @@ fn small<W: Write>(to: &mut W) -> io::Result<()> {
         answers::verdict_number(machine::host_read(after, &main, &swap, 0, &mut more)) == 4,
     )?;
     let z = machine::reply(after, 0, 7);
-    let k = z.verdict;
-    say(to, b"register 0 refused 4", answers::verdict_number(k) == 4)
+    say(
+        to,
+        b"register 0 refused 4",
+        answers::verdict_number(z.verdict) == 4,
+    )
 }
 
 // "frames 1 refused 6"
@@ -145,8 +131,11 @@ fn one_frame<W: Write>(to: &mut W) -> io::Result<()> {
     let mut main = [0u8; 20480];
     let mut swap = [0u8; 4096];
     let l = loading::load(&file, &mut main, &mut swap);
-    let v = l.verdict;
-    say(to, b"frames 1 refused 6", answers::verdict_number(v) == 6)
+    say(
+        to,
+        b"frames 1 refused 6",
+        answers::verdict_number(l.verdict) == 6,
+    )
 }
 
 // "Host write of 37 2C 35 (hex) at 4095, page 0 in swap, page 1 resident: the same bytes are read after both have moved."
@@ -158,20 +147,17 @@ fn border<W: Write>(to: &mut W) -> io::Result<()> {
     let first = machine::run(l.machine, &mut main, &mut swap, 1000);
     let shown = first.machine;
     let b = shown.book;
-    let x = b.held[0];
-    let y = b.held[1];
     say(
         to,
         b"page 0 in swap, page 1 resident",
-        trapped(first, 1, 2, 2) && b.used == 2 && x.0 == 2 && y.0 == 1,
+        trapped(first, 1, 2, 2) && b.used == 2 && b.held[0].0 == 2 && b.held[1].0 == 1,
     )?;
     let text = [0x37u8, 0x2C, 0x35];
     let w = machine::host_write(shown, &mut main, &mut swap, 4095, &text);
-    let u = w.verdict;
     say(
         to,
         b"host write of 37 2c 35 at 4095",
-        answers::verdict_number(u) == 0,
+        answers::verdict_number(w.verdict) == 0,
     )?;
     let second = machine::run(w.machine, &mut main, &mut swap, 1000);
     let moved = second.machine;

@@ -10,11 +10,7 @@ use paging::{pages, table};
 fn legal(a: Access) -> bool
     ensures { result ≡ access.legal a }
 {
-    match a {
-        Access::Illegal => false,
-        Access::Fault => true,
-        Access::At(_) => true,
-    }
+    !matches!(a, Access::Illegal)
 }
 
 // "all pages need r, or w": n bytes lie in the pages of the first and of the last of them.

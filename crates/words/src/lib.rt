@@ -5,70 +5,23 @@ ghost use Rattle.std.specs.Prelude.{◌≡◌, ◌+◌, ◌*◌, ◌<◌, ◌≤
 ghost use Rattle.model.specs.Bytes as bytes;
 ghost use Rattle.model.specs.Bytes.{number, store, page, with_page};
 
-pub fn wide(b: u8) -> u32
-    ensures { (result ≡ b) × (result < 256) }
+// The number of the N bytes at `at`. One load, where N is 1, 2 or 4.
+pub fn number_at<const N: usize>(m: &[u8], at: usize) -> u32
+    requires { (at + N ≤ length m.now) × (N ≤ 4) }
+    ensures { result ≡ number N m.now at }
 {
-    b as u32
+    let mut bytes = [0; 4];
+    bytes[..N].copy_from_slice(&m[at..at + N]);
+    u32::from_le_bytes(bytes)
 }
 
-// The number of one, two and four bytes at `at`. The sums become one load.
-pub fn byte_at(m: &[u8], at: usize) -> u32
-    requires { at + 1 ≤ length m.now }
-    ensures { result ≡ number 1 m.now at }
+// Puts the N low bytes of x at `at`. One store, where N is 1, 2 or 4.
+pub fn put_number<const N: usize>(m: &mut [u8], at: usize, x: u32)
+    requires { (at + N ≤ length m.old) × (N ≤ 4) }
+    ensures { m.new ≡ store N m.old at x }
 {
-    wide(m[at])
-}
-
-pub fn half_at(m: &[u8], at: usize) -> u32
-    requires { at + 2 ≤ length m.now }
-    ensures { result ≡ number 2 m.now at }
-{
-    wide(m[at]) + 256 * wide(m[at + 1])
-}
-
-pub fn word_at(m: &[u8], at: usize) -> u32
-    requires { at + 4 ≤ length m.now }
-    ensures { result ≡ number 4 m.now at }
-{
-    wide(m[at]) + 256 * wide(m[at + 1]) + 65536 * wide(m[at + 2]) + 16777216 * wide(m[at + 3])
-}
-
-// Puts the low byte, the two and the four low bytes of x at `at`. The stores become one.
-pub fn put_byte(m: &mut [u8], at: usize, x: u32)
-    requires { at + 1 ≤ length m.old }
-    ensures { m.new ≡ store 1 m.old at x }
-{
-    m[at] = (x % 256) as u8;
-}
-
-pub fn put_half(m: &mut [u8], at: usize, x: u32)
-    requires { at + 2 ≤ length m.old }
-    ensures { m.new ≡ store 2 m.old at x }
-{
-    m[at] = (x % 256) as u8;
-    m[at + 1] = (x / 256 % 256) as u8;
-}
-
-pub fn put_word(m: &mut [u8], at: usize, x: u32)
-    requires { at + 4 ≤ length m.old }
-    ensures { m.new ≡ store 4 m.old at x }
-{
-    m[at] = (x % 256) as u8;
-    m[at + 1] = (x / 256 % 256) as u8;
-    m[at + 2] = (x / 65536 % 256) as u8;
-    m[at + 3] = (x / 16777216 % 256) as u8;
-}
-
-// Copies `from` over `to`, which is as long.
-pub fn copy(from: &[u8], to: &mut [u8])
-    requires { length from.now ≡ length to.old }
-    ensures { to.new ≡ from.now }
-{
-    let mut i = 0;
-    while i < from.len() {
-        to[i] = from[i];
-        i += 1;
-    }
+    let bytes = x.to_le_bytes();
+    m[at..at + N].copy_from_slice(&bytes[..N]);
 }
 
 // Copies page x of `from` over page y of `to`.
@@ -77,24 +30,8 @@ pub fn copy_page(from: &[u8], x: usize, to: &mut [u8], y: usize)
     ensures { to.new ≡ with_page to.old y (page from.now x) }
 {
     let start = 4096 * x;
-    let stop = start + 4096;
     let first = 4096 * y;
-    let last = first + 4096;
-    copy(&from[start..stop], &mut to[first..last]);
-}
-
-// Whether a and b, which is as long, are equal. No byte ends the loop early, so that it looks at many at once.
-pub fn same(a: &[u8], b: &[u8]) -> bool
-    requires { length a.now ≡ length b.now }
-    ensures { result ≡ bytes.same a.now b.now }
-{
-    let mut equal = true;
-    let mut i = 0;
-    while i < a.len() {
-        equal = equal & (a[i] == b[i]);
-        i += 1;
-    }
-    equal
+    to[first..first + 4096].copy_from_slice(&from[start..start + 4096]);
 }
 
 // Whether page x of a and page y of b are equal.
@@ -103,8 +40,6 @@ pub fn same_page(a: &[u8], x: usize, b: &[u8], y: usize) -> bool
     ensures { result ≡ bytes.same (page a.now x) (page b.now y) }
 {
     let start = 4096 * x;
-    let stop = start + 4096;
     let first = 4096 * y;
-    let last = first + 4096;
-    same(&a[start..stop], &b[first..last])
+    a[start..start + 4096] == b[first..first + 4096]
 }

@@ -7,6 +7,7 @@ use native.Mathlib.Omega.{arith}
 use borrow.Author.Tests.{le-leb, lt-leb}
 use lib.Dec.{leb}
 use lib.ListN.{length}
+use Rattle.std.specs.Prelude.{Ok, Err}
 use Rattle.model.specs.Answers.{refusal_number}
 use Rattle.model.specs.Console.{refused_word, spaced, newline, refused_line}
 use Rattle.model.specs.declared.Refusal.{Refusal}
@@ -15,10 +16,7 @@ use Rattle.laws.proofs.Granted.{some_number}
 use Rattle.text.specs.Text.{Appended}
 use Rattle.text.proofs.Appending.{nothing, joined, same, within}
 use Rattle.notation.specs.Calls.{AssembleOutcome, assemble_outcome, assemble_call, ListOutcome, list_outcome, list_call}
-use Rattle.notation.specs.declared.AssembleAnswer.{AssembleAnswer}
-use Rattle.notation.specs.declared.AssembleAnswer.TheVariants.{Assembled, NotAssembled}
-use Rattle.notation.specs.declared.ListAnswer.{ListAnswer}
-use Rattle.notation.specs.declared.ListAnswer.TheVariants.{Listed, NotListed}
+use Rattle.notation.specs.Answers.{AssembleAnswer, not_assembled, ListAnswer}
 use Rattle.grammar.proofs.Bounds.{assemble_few, listing_inside}
 use Rattle.workshop.specs.Programs.{Work, refused_at, asm_by, asm_work, list_by, list_work, Does}
 use Rattle.workshop.specs.declared.Made.{Made}
@@ -63,7 +61,7 @@ said_at x n line column is word number place behind last =
     same (joined word (joined number (joined place (joined behind last)))) (ap (λ a. refused_at a line column) is)
 
 asm_refused : (x : Refusal) (line column : ℕ) (out : List ℕ)
-    → refusal (refused_at (refusal_number x) line column) out ≡ asm_by (assemble_outcome (NotAssembled x line column) out)
+    → refusal (refused_at (refusal_number x) line column) out ≡ asm_by (assemble_outcome (Err (not_assembled x line column)) out)
 asm_refused x line column out = rw (some_number x)
 
 module _ (input out : List ℕ) where
@@ -86,10 +84,10 @@ module _ (input out : List ℕ) where
     asm_called = simp le-leb
 
     module _ (a : AssembleAnswer) (after : List ℕ) (call : assemble_outcome a after ≡ assemble_call input out) where
-      pub text_good : (n : ℕ) → a ≡ Assembled n → result n after ≡ asm_work input out
+      pub text_good : (n : ℕ) → a ≡ Ok n → result n after ≡ asm_work input out
       text_good n e = rw (asm_called, ← call, e)
 
-      module _ (x : Refusal) (line column : ℕ) (e : a ≡ NotAssembled x line column) where
+      module _ (x : Refusal) (line column : ℕ) (e : a ≡ Err (not_assembled x line column)) where
         pub text_bad : refusal (refused_at (refusal_number x) line column) after ≡ asm_work input out
         text_bad = rw (asm_called, ← call, e) (asm_refused x line column after)
 
@@ -109,7 +107,7 @@ module _ (input out : List ℕ) where
 abbrev TextIn : ListOutcome → Type 0
 TextIn o = o.numbers.length ≤ length o.out
 
-list_refused_lem : (x : Refusal) (out : List ℕ) → refusal (refused_line (refusal_number x)) out ≡ list_by (list_outcome (NotListed x) out)
+list_refused_lem : (x : Refusal) (out : List ℕ) → refusal (refused_line (refusal_number x)) out ≡ list_by (list_outcome (Err x) out)
 list_refused_lem x out = rw (some_number x)
 
 module _ (input out : List ℕ) where
@@ -123,10 +121,10 @@ module _ (input out : List ℕ) where
     list_called = simp le-leb
 
     module _ (a : ListAnswer) (after : List ℕ) (call : list_outcome a after ≡ list_call input out) where
-      pub words_good : (n : ℕ) → a ≡ Listed n → result n after ≡ list_work input out
+      pub words_good : (n : ℕ) → a ≡ Ok n → result n after ≡ list_work input out
       words_good n e = rw (list_called, ← call, e)
 
-      pub words_bad : (x : Refusal) → a ≡ NotListed x → refusal (refused_line (refusal_number x)) after ≡ list_work input out
+      pub words_bad : (x : Refusal) → a ≡ Err x → refusal (refused_line (refusal_number x)) after ≡ list_work input out
       words_bad x e = rw (list_called, ← call, e) (list_refused_lem x after)
 
   text_inside : (list_work input out).length ≤ length (list_work input out).out

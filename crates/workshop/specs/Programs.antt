@@ -1,10 +1,9 @@
 -- What the programs `asm` and `list` write for what they read: the result to standard output; of a refusal one line to descriptor 2.
-use Rattle.std.specs.Prelude.{◌≡◌, List, [], ◌++◌, ℕ, eqb, leb, length, if◌then◌else◌}
+use Rattle.std.specs.Prelude.{◌≡◌, List, [], ◌++◌, ℕ, eqb, leb, length, if◌then◌else◌, Err}
 use Rattle.model.specs.Console as console
 use Rattle.model.specs.declared.Refusal.TheVariants.{Room}
 use Rattle.notation.specs.Calls.{AssembleNumbers, AssembleOutcome, assemble_outcome, assemble_call, ListOutcome, list_outcome, list_call}
-use Rattle.notation.specs.declared.AssembleAnswer.TheVariants.{NotAssembled}
-use Rattle.notation.specs.declared.ListAnswer.TheVariants.{NotListed}
+use Rattle.notation.specs.Answers.{not_assembled}
 use Rattle.text.specs.Text.{Appended}
 use Rattle.workshop.specs.declared.Made.{Made}
 
@@ -27,14 +26,14 @@ abbrev pub asm_by : AssembleOutcome → Work
 asm_by o = record { length = o.numbers.length; out = o.out; line = asm_line o.numbers }
 
 unfoldable pub asm_work : List ℕ → List ℕ → Work
-asm_work input out = asm_by (if leb (length input) 294912 then assemble_call input out else assemble_outcome (NotAssembled Room 0 0) out)
+asm_work input out = asm_by (if leb (length input) 294912 then assemble_call input out else assemble_outcome (Err (not_assembled Room 0 0)) out)
 
 -- ---- list: "words of 65,536" bytes; `refused N`
 abbrev pub list_by : ListOutcome → Work
 list_by o = record { length = o.numbers.length; out = o.out; line = console.or_refused o.numbers.verdict [] }
 
 unfoldable pub list_work : List ℕ → List ℕ → Work
-list_work input out = list_by (if leb (length input) 65536 then list_call input out else list_outcome (NotListed Room) out)
+list_work input out = list_by (if leb (length input) 65536 then list_call input out else list_outcome (Err Room) out)
 
 -- ---- what the two promise: both counts, and the output lent and the buffer for what is said, afterwards
 pub record Does (w : Work) (said : List ℕ) (r : Made) (after heard : List ℕ) : Type 0 where

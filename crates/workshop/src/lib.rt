@@ -8,7 +8,7 @@ ghost use Rattle.text.specs.Text.{Appended};
 ghost use Rattle.workshop.specs.Programs as programs;
 
 use model::Refusal;
-use notation::{AssembleAnswer, ListAnswer};
+use notation::NotAssembled;
 
 // How many bytes of the output are to be written, and how many of what is to be said on descriptor 2.
 #[derive(Clone, Copy)]
@@ -18,15 +18,15 @@ pub struct Made {
 }
 
 // `refused N LINE COLUMN`
-fn refused_at(refusal: Refusal, line: usize, column: usize, said: &mut [u8]) -> Made
-    requires { (64 ≤ length said.old) × (line < 2 ^ 32) × (column < 2 ^ 32) }
+fn refused_at(bad: NotAssembled, said: &mut [u8]) -> Made
+    requires { (64 ≤ length said.old) × (bad.line < 2 ^ 32) × (bad.column < 2 ^ 32) }
     ensures { (result.written ≡ 0)
-        × Appended said.old 0 said.new result.said (programs.refused_at (refusal_number refusal) line column) }
+        × Appended said.old 0 said.new result.said (programs.refused_at (refusal_number bad.refusal) bad.line bad.column) }
 {
     let word = text::put(said, 0, b"refused");
-    let number = text::lines::put_spaced(said, word, answers::refusal_number(refusal));
-    let place = text::lines::put_spaced(said, number, line as u32);
-    let end = text::lines::put_spaced(said, place, column as u32);
+    let number = text::lines::put_spaced(said, word, answers::refusal_number(bad.refusal));
+    let place = text::lines::put_spaced(said, number, bad.line as u32);
+    let end = text::lines::put_spaced(said, place, bad.column as u32);
     Made {
         written: 0,
         said: text::put(said, end, b"\n"),
@@ -40,18 +40,19 @@ pub fn asm(input: &[u8], out: &mut [u8], said: &mut [u8]) -> Made
     ensures { programs.AsmPromise input.now out.old said.old result out.new said.new }
 {
     if input.len() > 294912 {
-        return refused_at(Refusal::Room, 0, 0, said);
+        let long = NotAssembled {
+            refusal: Refusal::Room,
+            line: 0,
+            column: 0,
+        };
+        return refused_at(long, said);
     }
     match assembler::assemble(input, out) {
-        AssembleAnswer::Assembled { length } => Made {
+        Ok(length) => Made {
             written: length,
             said: 0,
         },
-        AssembleAnswer::NotAssembled {
-            refusal,
-            line,
-            column,
-        } => refused_at(refusal, line, column, said),
+        Err(bad) => refused_at(bad, said),
     }
 }
 
@@ -76,10 +77,10 @@ pub fn list(input: &[u8], out: &mut [u8], said: &mut [u8]) -> Made
         return refused(Refusal::Room, said);
     }
     match lister::list(input, out) {
-        ListAnswer::Listed { length } => Made {
+        Ok(length) => Made {
             written: length,
             said: 0,
         },
-        ListAnswer::NotListed(refusal) => refused(refusal, said),
+        Err(refusal) => refused(refusal, said),
     }
 }

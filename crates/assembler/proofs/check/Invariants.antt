@@ -1,11 +1,10 @@
--- `check`: the lines before `at` are good, and counted.
-use Prim.Native.Nat.{◌-◌}
+-- `check`: the lines before those that are left are good, and counted.
 use lib.ListN.{length}
 use Rattle.assembler.proofs.Passes.{Counted}
 use Rattle.assembler.proofs.check.Given as goal
 
-abbrev pub invariant-loop-at : goal.invariant-loop-at
-invariant-loop-at l = Counted l.text l.at l.n
+abbrev pub invariant-loop-line : goal.invariant-loop-line
+invariant-loop-line l = Counted l.text l.left l.n
 
-abbrev pub decreases-loop-at : goal.decreases-loop-at
-decreases-loop-at l = length l.text - l.at
+abbrev pub decreases-loop-line : goal.decreases-loop-line
+decreases-loop-line l = length l.left

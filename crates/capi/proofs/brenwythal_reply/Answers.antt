@@ -11,13 +11,13 @@ returns-then-words-ne-RECORD c = reply_short _ _ _ (search rules)
 
 pub set_register-requires : goal.set_register-requires
 set_register-requires c =
-    (search rules, omega (arith, reply_leans _ _ c.in-Granted.ensures refl))
+    (search rules, omega (arith, reply_leans _ _ c.in-Ok.ensures refl))
 
-pub returns-in-Granted : goal.returns-in-Granted
-returns-in-Granted c =
-    let asked = c.in-Granted.ensures in
+pub returns-in-Ok : goal.returns-in-Ok
+returns-in-Ok c =
+    let asked = c.in-Ok.ensures in
     reply_set _ _ _ (search rules) _ asked refl _ (omega (arith, reply_leans _ _ asked refl)) _ c.set_register.ensures
 
-pub returns-in-Refused : goal.returns-in-Refused
-returns-in-Refused c =
-    reply_not _ _ _ (search rules) _ c.in-Refused.ensures _ refl _ c.refusal_number.ensures
+pub returns-in-Err : goal.returns-in-Err
+returns-in-Err c =
+    reply_not _ _ _ (search rules) _ c.in-Err.ensures _ refl _ c.refusal_number.ensures

@@ -44,14 +44,14 @@ pub overflow_add-place : goal.overflow_add-place
 overflow_add-place c =
     omega (arith, c.find-end.ensures.within.1, c.requires.2)
 
-pub loop-place-smaller-then-next : goal.loop-place-smaller-then-next
-loop-place-smaller-then-next c =
+pub loop-place-smaller-then-at : goal.loop-place-smaller-then-at
+loop-place-smaller-then-at c =
     omega (arith, line_left spoken c.loop-place.invariant.0 c.loop-place-test.true, c.find-end.ensures.place)
 
-pub loop-place-preserved-then-next : goal.loop-place-preserved-then-next
-loop-place-preserved-then-next c =
+pub loop-place-preserved-then-at : goal.loop-place-preserved-then-at
+loop-place-preserved-then-at c =
     let told = c.step-told.ensures in (
-      renumbered told.stands.1 (goes_on spoken c.loop-place.invariant.0 c.loop-place-test.true c.find-end.result c.find-end.ensures.place told.tells c.if-next.true),
+      renumbered told.stands.1 (goes_on spoken c.loop-place.invariant.0 c.loop-place-test.true c.find-end.result c.find-end.ensures.place told.tells c.if-at.true),
       told.stands.0,
       kept c.loop-place.invariant.2 (omega arith) (omega arith) (omega arith),
     )
@@ -63,7 +63,7 @@ loop-place-smaller c =
 pub loop-place-preserved : goal.loop-place-preserved
 loop-place-preserved c =
     let told = c.step-told.ensures in (
-      renumbered told.stands.1 (ends spoken c.loop-place.invariant.0 c.loop-place-test.true c.find-end.result c.find-end.ensures.place told.tells c.if-next.false),
+      renumbered told.stands.1 (ends spoken c.loop-place.invariant.0 c.loop-place-test.true c.find-end.result c.find-end.ensures.place told.tells c.if-at.false),
       told.stands.0,
       kept c.loop-place.invariant.2 (omega arith) (omega arith) (omega arith),
     )

@@ -15,11 +15,10 @@ unfetched-requires c =
 pub returns-then-not-covers : goal.returns-then-not-covers
 returns-then-not-covers c =
     let tries = c.unfetched.ensures c.args.g.now in
-    rw c.pause.ensures
-    (left_with _ _ _ _ _ _ _ _ _ _ _ (begun _ _ _ _ _ _ c.requires.0 c.find-c.ensures.0) c.requires.1 _ _ _ tries
+    left_with _ _ _ _ _ _ _ _ _ _ _ (begun _ _ _ _ _ _ c.requires.0 c.find-c.ensures.0) c.requires.1 _ _ _ tries
     (λ f. no_fetch _ _ _ _
     (λ i at. uncovered _ _ c.find-c.result _ c.find-c.ensures.1 _ c.covers.ensures (simp c.if-not-covers.true) i (placed _ _ _ i at).at)
-    (subst Finished (ap (λ z. z.outcome) tries) f)))
+    (subst Finished (ap (λ z. z.outcome) tries) f))
 
 pub walk-requires : goal.walk-requires
 walk-requires c =

@@ -1,33 +1,22 @@
--- `name_end`: the bytes before i are the name's.
-use mathlib.Core.Path.{refl, sym, ap, ◌∙◌}
-use mathlib.Core.Bool.{not}
+-- `name_end`: the name goes up to the first blank, or to the end.
+use Rattle.std.proofs.Common.{rules, ◌-◌, length, drop}
 use native.Mathlib.Omega.{arith}
-use lib.ListN.{length}
-use Rattle.text.proofs.Fronts.{front_more, front_stop}
+use lib.ListN.{length-drop}
+use lib.Seq.{take_all}
+use Rattle.std.proofs.lemmas.Iterator.{YieldsList-from_slice}
+use Rattle.std.proofs.lemmas.Iterator.Search.{position_from_yields_List}
 use Rattle.notation.specs.Sums.{is_blank}
-use Rattle.line.proofs.Names.{no_name}
-use borrow.Author.Rules.{rules}
+use Rattle.line.proofs.Names.{name_stops, name_ends}
 use Rattle.line.proofs.name_end.Goals as goal
 
-pub loop-i-init : goal.loop-i-init
-loop-i-init c = (omega arith, omega arith, refl)
+pub returns-in-Some : goal.returns-in-Some
+returns-in-Some c =
+    let a = c.args in
+    let e = position_from_yields_List is_blank _ _ _ c.position.ensures.ran (YieldsList-from_slice (drop a.at a.s.now) (cc (take_all (length a.s.now - a.at) (drop a.at a.s.now) (omega (arith, length-drop a.at a.s.now))))) (λ x b q k. search rules) in
+    name_stops a.s.now a.at c.requires c.position.result e c.in-Some.n c.in-Some.is
 
-pub returns-then-blank : goal.returns-then-blank
-returns-then-blank c =
-    let v = c.loop-i in
-    let l = c.args.s.now in
-    let e = front_stop (λ x. not (is_blank x)) l v.i (ap not (sym c.blank.ensures ∙ c.if-blank.true)) in
-    (omega (arith, ap length e, v.invariant.2), omega arith, omega arith)
-
-pub loop-i-preserved : goal.loop-i-preserved
-loop-i-preserved c =
-    let v = c.loop-i in
-    let l = c.args.s.now in
-    let e = front_more (λ x. not (is_blank x)) l v.i (search rules) (ap not (sym c.blank.ensures ∙ c.if-blank.false)) in
-    (omega arith, omega arith, omega (arith, ap length e, v.invariant.2))
-
-pub returns : goal.returns
-returns c =
-    let v = c.loop-i in
-    let l = c.args.s.now in
-    (omega (arith, ap length (no_name l v.i (omega arith)), v.invariant.2), omega arith, omega arith)
+pub returns-in-None : goal.returns-in-None
+returns-in-None c =
+    let a = c.args in
+    let e = position_from_yields_List is_blank _ _ _ c.position.ensures.ran (YieldsList-from_slice (drop a.at a.s.now) (cc (take_all (length a.s.now - a.at) (drop a.at a.s.now) (omega (arith, length-drop a.at a.s.now))))) (λ x b q k. search rules) in
+    name_ends a.s.now a.at c.requires c.position.result e c.in-None.is

@@ -11,7 +11,7 @@ returns-then-digit_at c = c.plain.ensures ∙ begins_number _ _ c.skip-at.ensure
 pub instruction-requires : goal.instruction-requires
 instruction-requires c =
     let l = c.args.s.now in
-    (c.requires, omega (arith, skip_inside l 0 (omega arith), c.skip-at.ensures))
+    omega (arith, skip_inside l 0 (omega arith), c.skip-at.ensures)
 
 pub returns : goal.returns
 returns c = c.instruction.ensures ∙ begins_name _ _ c.skip-at.ensures _ c.digit_at.ensures c.if-digit_at.false

@@ -1,37 +1,35 @@
--- `write`: after i words the lines of the first i stand in the buffer.
+-- `write`: the lines of the words so far stand in the buffer.
 use mathlib.Core.Path.{ap}
 use native.Mathlib.Omega.{arith}
 use lib.Seq.{take_all}
 use Rattle.text.proofs.Appending.{nothing, joined, same, length_appended}
 use Rattle.notation.specs.Listing.{listing}
-use Rattle.notation.specs.Calls.{words_of}
+use Rattle.lister.specs.Words.{numbers}
 use Rattle.lister.proofs.Listings.{words_length, stands, no_lines, line_more, line_room}
+use borrow.Author.Rules.{rules}
 use Rattle.lister.proofs.write.Goals as goal
 
-pub loop-i-init : goal.loop-i-init
-loop-i-init c = (omega arith, same (nothing c.args.out.now 0 (omega arith)) no_lines)
-
-pub word_at-requires : goal.word_at-requires
-word_at-requires c = omega arith
+pub loop-bytes-init : goal.loop-bytes-init
+loop-bytes-init c = same (nothing c.args.out.now 0 (omega arith)) no_lines
 
 pub put_line-to-requires : goal.put_line-to-requires
 put_line-to-requires c =
-    let v = c.loop-i in
-    let s = stands c.args.bytes.now v.i c.word_at.result (omega arith) c.word_at.ensures in
-    (c.requires.0, omega (arith, line_room s, length_appended v.invariant.1))
+    let v = c.loop-bytes in
+    let s = stands c.args.words.now v.bytes-index c.from_le_bytes.result _ (search rules) c.from_le_bytes.ensures in
+    omega (arith, line_room s, v.invariant.place, length_appended v.invariant, c.requires)
 
-pub loop-i-preserved : goal.loop-i-preserved
-loop-i-preserved c =
-    let word = c.word_at in
-    let v = c.loop-i in
-    let s = stands c.args.bytes.now v.i word.result (omega arith) word.ensures in
-    (omega arith, same (joined v.invariant.1 c.put_line-to.ensures) (line_more s))
+pub loop-bytes-preserved : goal.loop-bytes-preserved
+loop-bytes-preserved c =
+    let word = c.from_le_bytes in
+    let v = c.loop-bytes in
+    let s = stands c.args.words.now v.bytes-index word.result _ (search rules) word.ensures in
+    same (joined v.invariant c.put_line-to.ensures) (line_more s)
 
 pub shape_of-out : goal.shape_of-out
-shape_of-out c = length_appended c.loop-i.invariant.1
+shape_of-out c = length_appended c.loop-bytes.invariant
 
 pub returns : goal.returns
 returns c =
-    let bytes = c.args.bytes.now in
-    let v = c.loop-i in
-    same v.invariant.1 (ap listing (take_all v.i (words_of bytes) (omega (arith, words_length bytes))))
+    let words = c.args.words.now in
+    let v = c.loop-bytes in
+    same v.invariant (ap listing (take_all v.bytes-index (numbers words) (omega (arith, words_length words, c.loop-bytes-test.false))))

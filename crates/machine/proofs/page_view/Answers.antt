@@ -12,12 +12,12 @@ pub page_part-requires : goal.page_part-requires
 page_part-requires c =
     let a = c.args in
     view_leans (state a.m a.main.now a.swap.now) (held_length a.m _ c.well_formed.0) _ _
-    c.in-Granted.ensures refl
+    c.in-Ok.ensures refl
 
-pub returns-in-Refused : goal.returns-in-Refused
-returns-in-Refused c =
-    view_refused _ _ _ _ _ c.in-Refused.ensures _ refl _
+pub returns-in-Err : goal.returns-in-Err
+returns-in-Err c =
+    view_refused _ _ _ _ _ c.in-Err.ensures _ refl _
     (cut_none _ _ _ refl refl (search rules) refl)
 
-pub returns-in-Granted : goal.returns-in-Granted
-returns-in-Granted c = view_done _ _ _ _ _ c.in-Granted.ensures refl _ c.page_part.ensures
+pub returns-in-Ok : goal.returns-in-Ok
+returns-in-Ok c = view_done _ _ _ _ _ c.in-Ok.ensures refl _ c.page_part.ensures

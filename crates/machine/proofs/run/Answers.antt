@@ -6,9 +6,9 @@ use Rattle.machine.proofs.run.Goals as goal
 
 pub run_granted-requires : goal.run_granted-requires
 run_granted-requires c =
-    sym c.in-Granted.ensures
+    sym c.in-Ok.ensures
 
-pub returns-in-Refused : goal.returns-in-Refused
-returns-in-Refused c =
+pub returns-in-Err : goal.returns-in-Err
+returns-in-Err c =
     let a = c.args in
-    run_refused (state a.m a.main.now a.swap.now) _ _ c.in-Refused.ensures _ refl
+    run_refused (state a.m a.main.now a.swap.now) _ _ c.in-Err.ensures _ refl

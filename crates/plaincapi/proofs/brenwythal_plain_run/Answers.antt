@@ -15,8 +15,8 @@ returns-then-answer-ne3 c = run_narrow _ _ _ _ _ (search rules) (search rules)
 pub run_granted-r-requires : goal.run_granted-r-requires
 run_granted-r-requires c =
     let a = c.args in
-    ap (λ m. run_verdict (plain_state m a.memory.now a.rights.now) a.limit) (c.plain_of-in-Granted.ensures ∙ sym c.plain_of.ensures)
-    ∙ sym c.in-Granted.ensures
+    ap (λ m. run_verdict (plain_state m a.memory.now a.rights.now) a.limit) (c.plain_of-in-Ok.ensures ∙ sym c.plain_of.ensures)
+    ∙ sym c.in-Ok.ensures
 
 pub put_plain-requires : goal.put_plain-requires
 put_plain-requires c =
@@ -26,11 +26,11 @@ pub put_run-requires : goal.put_run-requires
 put_run-requires c =
     c.if-answer-ne3.false
 
-pub returns-in-Granted : goal.returns-in-Granted
-returns-in-Granted c =
+pub returns-in-Ok : goal.returns-in-Ok
+returns-in-Ok c =
     run_handed c.run_granted-r.result.answer _ _ _ _ _ _ c.put_run.ensures c.put_plain.ensures _ c.run_granted-r.ensures
-    ∙ run_whole _ _ _ _ _ c.if-words-ne-RECORD.false c.if-answer-ne3.false _ c.plain_of-in-Granted.ensures
+    ∙ run_whole _ _ _ _ _ c.if-words-ne-RECORD.false c.if-answer-ne3.false _ c.plain_of-in-Ok.ensures
 
-pub returns-in-Refused : goal.returns-in-Refused
-returns-in-Refused c =
-    run_not _ _ _ _ _ (search rules) (search rules) _ c.plain_of.ensures _ c.in-Refused.ensures _ refl _ _ c.put_run-in-Refused.ensures
+pub returns-in-Err : goal.returns-in-Err
+returns-in-Err c =
+    run_not _ _ _ _ _ (search rules) (search rules) _ c.plain_of.ensures _ c.in-Err.ensures _ refl _ _ c.put_run-in-Err.ensures

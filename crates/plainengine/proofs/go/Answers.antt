@@ -3,7 +3,8 @@
 use mathlib.Core.Path.{refl}
 use native.Mathlib.Omega.{arith}
 use Rattle.plainengine.proofs.Running.{begun, run_out}
-use Rattle.plainengine.proofs.Walking.{sized_over, leg_on, leg_trapped, leg_stopped, leg_missing, goes_further}
+use Rattle.plainengine.proofs.Walking.{sized_over, leg_on, leg_trapped, leg_stopped, leg_missing}
+use Rattle.cpu.proofs.Finishing.{finished_not}
 use borrow.Author.Rules.{rules}
 use Rattle.plainengine.proofs.go.Goals as goal
 
@@ -26,7 +27,7 @@ returns-in-Missing c =
     leg_missing _ _ _ _ _ _ _ c.loop-left.invariant.0 _ _ _ c.leg_from-l.ensures _ c.in-Missing.is _ c.finish-in-Missing.ensures
 
 pub loop-left-smaller : goal.loop-left-smaller
-loop-left-smaller c = c.leg_from-l.ensures.between (goes_further c.leg_from-l.result.outcome c.in_default.not-Trapped c.in_default.not-Missing c.in_default.not-Stopped)
+loop-left-smaller c = c.leg_from-l.ensures.between (finished_not c.leg_from-l.result.outcome c.in_default.not-Trapped c.in_default.not-Missing c.in_default.not-Stopped)
 
 pub loop-left-preserved : goal.loop-left-preserved
 loop-left-preserved c =

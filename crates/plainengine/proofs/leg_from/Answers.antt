@@ -12,10 +12,9 @@ unfetched-requires c = sym c.fetched.ensures ∙ c.if-not-fetched.true
 pub returns-then-not-fetched : goal.returns-then-not-fetched
 returns-then-not-fetched c =
     let tries = c.unfetched.ensures c.args.g.now c.args.m.now in
-    rw c.pause.ensures
-    (left_with _ _ _ _ _ _ _ _ _ (started _ _ _ _ _ c.requires.0 c.requires.1) _ _ _ tries
+    left_with _ _ _ _ _ _ _ _ _ (started _ _ _ _ _ c.requires.0 c.requires.1) _ _ _ tries
     (λ f. no_fetch _ _ _ _ (fetches_none _ _ _ refl (sym c.fetched.ensures ∙ c.if-not-fetched.true))
-    (subst Finished (ap (λ z. z.outcome) tries) f)))
+    (subst Finished (ap (λ z. z.outcome) tries) f))
 
 pub walk-requires : goal.walk-requires
 walk-requires c =

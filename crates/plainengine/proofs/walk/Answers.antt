@@ -3,11 +3,12 @@
 use mathlib.Core.Path.{refl, sym, ◌∙◌}
 use native.Mathlib.Omega.{arith}
 use borrow.Author.Tests.{eqb-true}
+use Rattle.cpu.proofs.Finishing.{unfinished_not}
 use Rattle.plaincpu.proofs.Ways.{fetches_on}
-use Rattle.plainengine.proofs.Walking.{started, left_between, moved, went_on, stored_on, once_more, left_with, unended}
+use Rattle.plainengine.proofs.Walking.{started, left_between, moved, went_on, stored_on, once_more, left_with}
 use borrow.Author.Rules.{rules}
 use Rattle.plainengine.proofs.walk.Goals as goal
-use Rattle.plainengine.proofs.walk.Goals.{else-loop-g-test, then-loop-g-test+then-left-eq0, in-Done, in-Wrote}
+use Rattle.plainengine.proofs.walk.Goals.{in-Done, in-Wrote}
 
 pub loop-g-init : goal.loop-g-init
 loop-g-init c = let pre = c.requires in (started _ _ _ _ _ pre.0 pre.2, refl)
@@ -18,9 +19,8 @@ attempt-o-requires c =
 
 pub returns-in_default : goal.returns-in_default
 returns-in_default c =
-    rw c.pause.ensures
-    (left_with _ _ _ _ _ _ _ _ _ c.loop-g.invariant.0 _ _ _ c.attempt-o.ensures
-    (unended c.attempt-o.result c.in_default.not-Done c.in_default.not-Wrote))
+    left_with _ _ _ _ _ _ _ _ _ c.loop-g.invariant.0 _ _ _ c.attempt-o.ensures
+    (unfinished_not c.attempt-o.result c.in_default.not-Done c.in_default.not-Wrote)
 
 pub loop-g-preserved : goal.loop-g-preserved
 loop-g-preserved c =
@@ -34,17 +34,18 @@ loop-g-preserved c =
       search rules,
     )
 
-pub returns : goal.returns
-returns c =
+pub returns-after-loop-g : goal.returns-after-loop-g
+returns-after-loop-g c =
     let inv = c.loop-g.invariant.0 in
-    rw c.pause-2.ensures
-    (elim c.loop-g-test.branch [
-      | else-loop-g-test w ↦ left_between _ _ _ _ _ _ _ _ _ inv.way
-          (moved _ _ _ _ _ _ _ _ _ inv c.requires.1 _ c.on_page.ensures w.loop-g-test.false) _ w.g-is _ w.m-is _ w.pcs-is _ w.left-is
-      | then-loop-g-test+then-left-eq0 w ↦ left_between _ _ _ _ _ _ _ _ _
-          (elim w.match-o.branch [
-            | in-Done k ↦ went_on _ _ _ _ _ _ _ _ _ inv _ _ _ k.in-Done.ensures _ refl _ k.pcs-is
-            | in-Wrote k ↦ stored_on _ _ _ _ _ _ _ _ _ inv _ _ _ k.in-Wrote.ensures _ _ refl _ k.pcs-is
-          ])
-          (omega (arith, inv.way.few, inv.more)) _ w.g-is _ w.m-is _ w.pcs-is _ w.left-is
+    left_between _ _ _ _ _ _ _ _ _ inv.way
+    (moved _ _ _ _ _ _ _ _ _ inv c.requires.1 _ c.on_page.ensures c.loop-g-test.false) _ refl _ refl _ refl _ refl
+
+pub returns-then-left-eq0 : goal.returns-then-left-eq0
+returns-then-left-eq0 c =
+    let inv = c.loop-g.invariant.0 in
+    left_between _ _ _ _ _ _ _ _ _
+    (elim c.match-o.branch [
+      | in-Done w ↦ went_on _ _ _ _ _ _ _ _ _ inv _ _ _ w.in-Done.ensures _ refl _ w.pcs-is
+      | in-Wrote w ↦ stored_on _ _ _ _ _ _ _ _ _ inv _ _ _ w.in-Wrote.ensures _ _ refl _ w.pcs-is
     ])
+    (omega (arith, inv.way.few, inv.more)) _ refl _ refl _ refl _ refl

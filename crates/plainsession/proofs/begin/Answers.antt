@@ -14,20 +14,20 @@ returns-then-file-gt263256 c =
 pub load-requires : goal.load-requires
 load-requires c =
     let a = c.args in
-    let e = ap image_numbers (sym c.in-Image.is) ∙ c.read.ensures in
-    let few = ptl_few a.file.now _ _ _ e (omega arith) in
-    (read_is a.file.now _ _ _ e, c.requires, omega arith)
+    let e = ap image_numbers (sym c.in-Ok.is) ∙ c.read.ensures in
+    let few = ptl_few a.file.now _ e (omega arith) in
+    (read_is a.file.now _ e, c.requires, omega arith)
 
-pub returns-in-NotImage : goal.returns-in-NotImage
-returns-in-NotImage c =
+pub returns-in-Err : goal.returns-in-Err
+returns-in-Err c =
     let a = c.args in
-    let b = not_image a.file.now a.memory.now a.rights.now (omega arith) c.in-NotImage.refusal
-    (ap image_numbers (sym c.in-NotImage.is) ∙ c.read.ensures) c.turned_away-in-NotImage.ensures in
+    let b = not_image a.file.now a.memory.now a.rights.now (omega arith) c.in-Err.refusal
+    (ap image_numbers (sym c.in-Err.is) ∙ c.read.ensures) c.turned_away-in-Err.ensures in
     record { begin_promise = b.0; lent = b.1 }
 
-pub returns-in-Image : goal.returns-in-Image
-returns-in-Image c =
+pub returns-in-Ok : goal.returns-in-Ok
+returns-in-Ok c =
     let a = c.args in
-    let b = is_image a.file.now a.memory.now a.rights.now (omega arith) c.in-Image.ptl c.in-Image.start c.in-Image.frames
-    (ap image_numbers (sym c.in-Image.is) ∙ c.read.ensures) c.load.ensures in
+    let b = is_image a.file.now a.memory.now a.rights.now (omega arith) c.in-Ok.written
+    (ap image_numbers (sym c.in-Ok.is) ∙ c.read.ensures) c.load.ensures in
     record { begin_promise = b.0; lent = b.1 }

@@ -8,18 +8,18 @@ use Rattle.plainsession.proofs.load.Goals as goal
 
 pub slice_bounds-load-end-2 : goal.slice_bounds-load-end-2
 slice_bounds-load-end-2 c =
-    sym (length-take-le (4096 * c.args.ptl) c.args.memory.now (omega arith))
+    sym (length-take-le (4096 * c.args.written.ptl) c.args.memory.now (omega arith))
 
 pub slice_bounds-load-end-4 : goal.slice_bounds-load-end-4
 slice_bounds-load-end-4 c =
-    sym (length-take-le c.args.ptl c.args.rights.now (omega arith))
+    sym (length-take-le c.args.written.ptl c.args.rights.now (omega arith))
 
-pub returns-in-Refused : goal.returns-in-Refused
-returns-in-Refused c =
+pub returns-in-Err : goal.returns-in-Err
+returns-in-Err c =
     let a = c.args in
-    load_refused c.requires.0 a.memory.now a.rights.now _ _ c.load-handed.ensures _ c.in-Refused.is c.turned_away.ensures
+    load_refused c.requires.0 a.memory.now a.rights.now _ _ c.load-handed.ensures _ c.in-Err.is c.turned_away.ensures
 
-pub returns-in-Granted : goal.returns-in-Granted
-returns-in-Granted c =
+pub returns-in-Ok : goal.returns-in-Ok
+returns-in-Ok c =
     let a = c.args in
-    load_granted c.requires.0 a.memory.now a.rights.now _ _ c.load-handed.ensures c.in-Granted.is c.numbers_line-filled.ensures c.told.ensures
+    load_granted c.requires.0 a.memory.now a.rights.now _ _ c.load-handed.ensures c.in-Ok.is c.numbers_line-filled.ensures c.told.ensures

@@ -1,21 +1,9 @@
--- `view_verdict`: refused on the machine, or by the page.
-use mathlib.Core.Path.{refl, ap, ◌∙◌}
-use Rattle.model.specs.Calls.{unless}
-use Rattle.model.specs.declared.Refusal.TheVariants.{Rights}
-use Rattle.model.specs.declared.Verdict.TheVariants.{Granted}
+-- `view_verdict`: refused on the machine.
 use Rattle.plainmodel.specs.Calls.{view_verdict}
-use Rattle.plainverdict.proofs.Verdicts.{still_refused, onward}
+use Rattle.plainverdict.proofs.Verdicts.{still_refused}
 use Rattle.plainverdict.proofs.view_verdict.Goals as goal
 
-pub returns-in-Refused : goal.returns-in-Refused
+pub returns-in_err-plain_verdict : goal.returns-in_err-plain_verdict
 unfolding view_verdict
-returns-in-Refused c =
-    let a = c.args in
-    still_refused a.m _ _ _ c.in-Refused.ensures _ refl _
-
-pub returns-in-Granted : goal.returns-in-Granted
-unfolding view_verdict
-returns-in-Granted c =
-    let a = c.args in
-    c.unless.ensures ∙ ap (λ b. unless b Rights Granted) c.viewable.ensures
-    ∙ onward a.m _ _ _ c.in-Granted.ensures refl _
+returns-in_err-plain_verdict c =
+    still_refused c.args.m _ _ _ c.plain_verdict.ensures _ c.in_err-plain_verdict.was _ c.from_residual.ensures.1 _

@@ -1,11 +1,8 @@
--- `numbers_of`: after i turns the first i have come.
-use Prim.Native.Nat.{◌≤◌, ◌-◌}
-use Rattle.words.proofs.Copies.{Copied}
+-- `numbers_of`: the first i numbers have come.
+use mathlib.Core.Path.{◌≡◌}
+use lib.Seq.{paste}
 use Rattle.record.specs.Words.{numbers_of}
 use Rattle.record.proofs.numbers_of.Given as goal
 
 abbrev pub invariant-loop-i : goal.invariant-loop-i
-invariant-loop-i l = (l.i ≤ 32) × Copied l.initial.numbers (numbers_of l.held) l.numbers l.i
-
-abbrev pub decreases-loop-i : goal.decreases-loop-i
-decreases-loop-i l = 32 - l.i
+invariant-loop-i l = l.numbers ≡ paste l.initial.numbers 0 (numbers_of l.fn.held) l.i

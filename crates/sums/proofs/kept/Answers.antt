@@ -1,10 +1,13 @@
 -- `kept`: each test of the definition.
-use Rattle.sums.proofs.Ways.{kept_low, kept_value}
-use borrow.Author.Rules.{rules}
+use native.Mathlib.Omega.{arith}
+use Rattle.std.proofs.lemmas.Bool.Decides.{nat_tests}
+use Rattle.notation.specs.Sums.{kept}
 use Rattle.sums.proofs.kept.Goals as goal
 
-pub returns-then-v-lt2147483648 : goal.returns-then-v-lt2147483648
-returns-then-v-lt2147483648 c = kept_low _ _ _ (search rules)
+pub returns-then-not-contains : goal.returns-then-not-contains
+unfolding kept
+returns-then-not-contains c = grind (arith, nat_tests)
 
 pub returns : goal.returns
-returns c = kept_value _ _ _ (search rules) (search rules)
+unfolding kept
+returns c = grind (arith, nat_tests)

@@ -13,12 +13,12 @@ number_at-requires c =
     let a = c.args in
     le_of_lt (digit_inside a.s.now a.at (sym c.digit_at.ensures ∙ c.if-not-digit_at.false))
 
-pub returns-in-Number : goal.returns-in-Number
-returns-in-Number c =
+pub returns-in-Ok : goal.returns-in-Ok
+returns-in-Ok c =
     let digit = sym c.digit_at.ensures ∙ c.if-not-digit_at.false in
-    digits _ _ _ digit c.in-Number.ensures
+    rw c.from.ensures (digits _ _ _ digit c.in-Ok.ensures.value)
 
-pub returns-in-NotNumber : goal.returns-in-NotNumber
-returns-in-NotNumber c =
+pub returns-in-Err : goal.returns-in-Err
+returns-in-Err c =
     let digit = sym c.digit_at.ensures ∙ c.if-not-digit_at.false in
-    digits _ _ _ digit c.in-NotNumber.ensures
+    digits _ _ _ digit c.in-Err.ensures.value

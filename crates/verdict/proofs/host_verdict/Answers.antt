@@ -1,25 +1,19 @@
 -- `host_verdict`: refused on the machine, or what the transfer comes to.
-use mathlib.Core.Path.{refl, ◌∙◌}
+use mathlib.Core.Path.{◌∙◌}
+use Rattle.std.proofs.lemmas.Result.{err_from_is_err_and}
 use Rattle.model.specs.Calls.{host_verdict}
-use Rattle.verdict.proofs.Verdicts.{of_whole, still_refused, onward, passed_fit}
+use Rattle.verdict.proofs.Verdicts.{still_refused, onward, fit}
 use Rattle.verdict.proofs.host_verdict.Goals as goal
 
 pub transfer_verdict-requires : goal.transfer_verdict-requires
-transfer_verdict-requires c =
-    let a = c.args in
-    let is = of_whole a.m a.main.now a.swap.now _ c.lean_of.ensures _ c.held_of-held.ensures _ c.in-Granted.ensures in
-    passed_fit _ _ is refl
+transfer_verdict-requires c = fit c.args.m _ _ _ c.lean_of.ensures _ c.numbers_of-held.ensures c.in_ok-machine_verdict.ensures
 
-pub returns-in-Refused : goal.returns-in-Refused
+pub returns-in_err-machine_verdict : goal.returns-in_err-machine_verdict
 unfolding host_verdict
-returns-in-Refused c =
-    let a = c.args in
-    let is = of_whole a.m a.main.now a.swap.now _ c.lean_of.ensures _ c.held_of-held.ensures _ c.in-Refused.ensures in
-    still_refused _ _ is _ refl _
+returns-in_err-machine_verdict c =
+    let p = err_from_is_err_and c.from_residual.result c.from_residual.ensures.1 in
+    rw (p.1, p.2) (still_refused _ _ _ _ c.lean_of.ensures _ c.numbers_of-held.ensures _ c.in_err-machine_verdict.ensures _)
 
-pub returns-in-Granted : goal.returns-in-Granted
+pub returns : goal.returns
 unfolding host_verdict
-returns-in-Granted c =
-    let a = c.args in
-    let is = of_whole a.m a.main.now a.swap.now _ c.lean_of.ensures _ c.held_of-held.ensures _ c.in-Granted.ensures in
-    c.transfer_verdict.ensures ∙ onward _ _ is refl _
+returns c = c.transfer_verdict.ensures ∙ onward _ _ _ _ c.lean_of.ensures _ c.numbers_of-held.ensures c.in_ok-machine_verdict.ensures _

@@ -1,12 +1,11 @@
 -- `run_verdict`: short enough, refused on the machine, or too long.
-use mathlib.Core.Path.{refl}
+use Rattle.std.proofs.lemmas.Result.{err_from_is_err_and}
 use Rattle.model.specs.Calls.{run_verdict}
-use Rattle.verdict.proofs.Verdicts.{of_whole, still_refused}
+use Rattle.verdict.proofs.Verdicts.{still_refused}
 use Rattle.verdict.proofs.run_verdict.Goals as goal
 
-pub returns-in-Refused : goal.returns-in-Refused
+pub returns-in_err-machine_verdict : goal.returns-in_err-machine_verdict
 unfolding run_verdict
-returns-in-Refused c =
-    let a = c.args in
-    let is = of_whole a.m a.main.now a.swap.now _ c.lean_of.ensures _ c.held_of-held.ensures _ c.in-Refused.ensures in
-    still_refused _ _ is _ refl _
+returns-in_err-machine_verdict c =
+    let p = err_from_is_err_and c.from_residual.result c.from_residual.ensures.1 in
+    rw (p.1, p.2) (still_refused _ _ _ _ c.lean_of.ensures _ c.numbers_of-held.ensures _ c.in_err-machine_verdict.ensures _)

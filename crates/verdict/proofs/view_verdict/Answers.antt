@@ -1,27 +1,25 @@
 -- `view_verdict`: refused on the machine, or by the page.
-use mathlib.Core.Path.{refl, ap, ◌∙◌}
-use Rattle.model.specs.Calls.{unless, view_verdict}
-use Rattle.model.specs.declared.Refusal.TheVariants.{Rights}
-use Rattle.model.specs.declared.Verdict.TheVariants.{Granted}
-use Rattle.verdict.proofs.Verdicts.{of_whole, still_refused, onward, passed_fit}
+use mathlib.Core.Path.{sym, ◌∙◌}
+use Rattle.std.proofs.lemmas.Result.{err_from_is_err_and}
+use Rattle.model.specs.Calls.{view_verdict}
+use Rattle.verdict.proofs.Verdicts.{failed, passed, still_refused, onward, fit}
 use Rattle.verdict.proofs.view_verdict.Goals as goal
 
 pub viewable-requires : goal.viewable-requires
-viewable-requires c =
-    let a = c.args in
-    let is = of_whole a.m a.main.now a.swap.now _ c.lean_of.ensures _ c.held_of-held.ensures _ c.in-Granted.ensures in
-    passed_fit _ _ is refl
+viewable-requires c = fit c.args.m _ _ _ c.lean_of.ensures _ c.numbers_of-held.ensures c.in_ok-machine_verdict.ensures
 
-pub returns-in-Refused : goal.returns-in-Refused
+pub returns-in_err-machine_verdict : goal.returns-in_err-machine_verdict
 unfolding view_verdict
-returns-in-Refused c =
-    let a = c.args in
-    let is = of_whole a.m a.main.now a.swap.now _ c.lean_of.ensures _ c.held_of-held.ensures _ c.in-Refused.ensures in
-    still_refused _ _ is _ refl _
+returns-in_err-machine_verdict c =
+    let p = err_from_is_err_and c.from_residual.result c.from_residual.ensures.1 in
+    rw (p.1, p.2) (still_refused _ _ _ _ c.lean_of.ensures _ c.numbers_of-held.ensures _ c.in_err-machine_verdict.ensures _)
 
-pub returns-in-Granted : goal.returns-in-Granted
+pub returns-then-not-viewable : goal.returns-then-not-viewable
 unfolding view_verdict
-returns-in-Granted c =
-    let a = c.args in
-    let is = of_whole a.m a.main.now a.swap.now _ c.lean_of.ensures _ c.held_of-held.ensures _ c.in-Granted.ensures in
-    c.unless.ensures ∙ ap (λ b. unless b Rights Granted) c.viewable.ensures ∙ onward _ _ is refl _
+returns-then-not-viewable c =
+    failed _ _ _ (sym c.viewable.ensures ∙ c.if-not-viewable.true) ∙ onward _ _ _ _ c.lean_of.ensures _ c.numbers_of-held.ensures c.in_ok-machine_verdict.ensures _
+
+pub returns : goal.returns
+unfolding view_verdict
+returns c =
+    passed _ _ _ (sym c.viewable.ensures ∙ c.if-not-viewable.false) ∙ onward _ _ _ _ c.lean_of.ensures _ c.numbers_of-held.ensures c.in_ok-machine_verdict.ensures _

@@ -8,13 +8,13 @@ returns-then-input-gt65536 c =
     let a = c.args in
     refused c.refused.ensures (words_long a.input.now a.out.now (omega arith))
 
-pub returns-in-Listed : goal.returns-in-Listed
-returns-in-Listed c =
+pub returns-in-Ok : goal.returns-in-Ok
+returns-in-Ok c =
     let a = c.args in
-    made _ (words_good a.input.now a.out.now (omega arith) _ _ c.list.ensures _ c.in-Listed.is)
+    made _ (words_good a.input.now a.out.now (omega arith) _ _ c.list.ensures _ c.in-Ok.is)
 
-pub returns-in-NotListed : goal.returns-in-NotListed
-returns-in-NotListed c =
+pub returns-in-Err : goal.returns-in-Err
+returns-in-Err c =
     let a = c.args in
-    refused c.refused-in-NotListed.ensures
-    (words_bad a.input.now a.out.now (omega arith) _ _ c.list.ensures _ c.in-NotListed.is)
+    refused c.refused-in-Err.ensures
+    (words_bad a.input.now a.out.now (omega arith) _ _ c.list.ensures _ c.in-Err.is)

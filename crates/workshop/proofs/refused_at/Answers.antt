@@ -8,6 +8,6 @@ pub returns : goal.returns
 returns c =
     let a = c.args in (
       refl,
-      said_at a.refusal _ a.line a.column c.refusal_number.ensures c.put-word.ensures
+      said_at a.bad.refusal _ a.bad.line a.bad.column c.refusal_number.ensures c.put-word.ensures
           c.put_spaced-number.ensures.0 (search rules) c.put_spaced-end.ensures.0 c.put.ensures,
     )

@@ -7,23 +7,23 @@ use borrow.Author.Rules.{rules}
 use Rattle.book.proofs.check.all_different.Goals as goal
 
 pub frames-init : goal.frames-init
-frames-init c = (search rules, refl, none_yet _)
+frames-init c = (refl, none_yet _)
 
 pub loop-i-init : goal.loop-i-init
-loop-i-init c = (search rules, search rules, none_yet _)
+loop-i-init c = (search rules, none_yet _)
 
 pub loop-i-preserved : goal.loop-i-preserved
 loop-i-preserved c =
     let a = c.args in
-    (search rules, c.loop-i.invariant.1, one_more _ _ c.loop-i.invariant.2 (pair_differs a.used a.held.now _ _ c.if-held-i.false))
+    (c.loop-i.invariant.0, one_more _ _ c.loop-i.invariant.1 (pair_differs a.used a.held.now _ _ c.if-held-i.false))
 
 pub frames-preserved : goal.frames-preserved
 frames-preserved c =
     let e : c.loop-i.i ≡ c.frames.j = omega arith in
-    (search rules, c.loop-i.invariant.1, one_more _ _ c.frames.invariant.2 (rw e at c.loop-i.invariant.2))
+    (c.loop-i.invariant.0, one_more _ _ c.frames.invariant.1 (rw e at c.loop-i.invariant.1))
 
 pub returns-after-frames : goal.returns-after-frames
-returns-after-frames c = λ hand marks. c.frames.invariant.1 ∙ all_passed _ _ _ c.frames.invariant.2 (search rules) (search rules)
+returns-after-frames c = λ hand marks. c.frames.invariant.0 ∙ all_passed _ _ _ c.frames.invariant.1 (search rules) (search rules)
 
 pub returns-then-held-i : goal.returns-then-held-i
 returns-then-held-i c =

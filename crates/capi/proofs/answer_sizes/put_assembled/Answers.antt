@@ -2,10 +2,10 @@
 use Rattle.capi.proofs.Numbers.{assembled, not_assembled}
 use Rattle.capi.proofs.answer_sizes.put_assembled.Goals as goal
 
-pub returns-in-Assembled : goal.returns-in-Assembled
-returns-in-Assembled c = assembled _ _ c.in-Assembled.is _ c.put_three.ensures
+pub returns-in-Ok : goal.returns-in-Ok
+returns-in-Ok c = assembled _ _ c.in-Ok.is _ c.put_three.ensures
 
-pub returns-in-NotAssembled : goal.returns-in-NotAssembled
-returns-in-NotAssembled c =
-    not_assembled _ _ _ _ c.in-NotAssembled.is _ c.refusal_number.ensures _
-    c.put_three-in-NotAssembled.ensures
+pub returns-in-Err : goal.returns-in-Err
+returns-in-Err c =
+    not_assembled _ _ c.in-Err.is _ c.refusal_number.ensures _
+    c.put_three-in-Err.ensures

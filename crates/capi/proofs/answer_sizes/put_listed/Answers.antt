@@ -2,10 +2,10 @@
 use Rattle.capi.proofs.Numbers.{listed, not_listed}
 use Rattle.capi.proofs.answer_sizes.put_listed.Goals as goal
 
-pub returns-in-Listed : goal.returns-in-Listed
-returns-in-Listed c = listed _ _ c.in-Listed.is _ c.put_one.ensures
+pub returns-in-Ok : goal.returns-in-Ok
+returns-in-Ok c = listed _ _ c.in-Ok.is _ c.copy_from_slice.ensures.after
 
-pub returns-in-NotListed : goal.returns-in-NotListed
-returns-in-NotListed c =
-    not_listed _ _ c.in-NotListed.is _ c.refusal_number.ensures _
-    c.put_one-in-NotListed.ensures
+pub returns-in-Err : goal.returns-in-Err
+returns-in-Err c =
+    not_listed _ _ c.in-Err.is _ c.refusal_number.ensures _
+    c.copy_from_slice-in-Err.ensures.after

@@ -2,8 +2,8 @@
 use Rattle.capi.proofs.Numbers.{ran, not_run}
 use Rattle.capi.proofs.answer_words.put_run.Goals as goal
 
-pub returns-in-Ran : goal.returns-in-Ran
-returns-in-Ran c = ran _ _ _ _ _ c.in-Ran.is _ c.stop_number.ensures _ c.stop_detail.ensures _ c.put_five.ensures
+pub returns-in-Ok : goal.returns-in-Ok
+returns-in-Ok c = ran _ _ c.in-Ok.is _ c.stop_number.ensures _ c.stop_detail.ensures _ c.put_five.ensures
 
-pub returns-in-NotRun : goal.returns-in-NotRun
-returns-in-NotRun c = not_run _ _ c.in-NotRun.is _ c.refusal_number.ensures _ c.put_five-in-NotRun.ensures
+pub returns-in-Err : goal.returns-in-Err
+returns-in-Err c = not_run _ _ c.in-Err.is _ c.refusal_number.ensures _ c.put_five-in-Err.ensures

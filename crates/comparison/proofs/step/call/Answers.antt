@@ -4,17 +4,19 @@ use native.Mathlib.Omega.{arith}
 use lib.ListN.{length-replicate}
 use Rattle.model.specs.State.{state}
 use Rattle.text.specs.Reading.{bytes_of}
+use mathlib.Core.Path.{◌∙◌}
+use Rattle.text.proofs.Words.{equal_same}
 use Rattle.text.proofs.Appending.{counted, length_appended}
 use Rattle.comparison.specs.Both.{both}
 use Rattle.comparison.proofs.Called.{call_told, stands_after, stands_told}
 use Rattle.comparison.proofs.step.call.Goals as goal
 
-pub slice_bounds-same-end : goal.slice_bounds-same-end
-slice_bounds-same-end c =
+pub slice_bounds-eq-end : goal.slice_bounds-eq-end
+slice_bounds-eq-end c =
     counted c.answer-ours.ensures.text
 
-pub slice_bounds-same-end-2 : goal.slice_bounds-same-end-2
-slice_bounds-same-end-2 c =
+pub slice_bounds-eq-end-2 : goal.slice_bounds-eq-end-2
+slice_bounds-eq-end-2 c =
     counted c.answer-theirs.ensures.text
 
 pub agree-requires : goal.agree-requires
@@ -60,6 +62,6 @@ returns c =
     let bytes = bytes_of a.digits.now in
     let judged = c.judged.ensures in record {
       tells = call_told a.c a.n bytes a.number (both a.at.machine a.main.now a.swap.now a.at.plain a.memory.now a.rights.now)
-          c.answer-ours.ensures c.answer-theirs.ensures c.same-answer.ensures c.agree.ensures c.put-behind.ensures judged.0 judged.1;
+          c.answer-ours.ensures c.answer-theirs.ensures (c.eq-answer.ensures ∙ equal_same _ _) c.agree.ensures c.put-behind.ensures judged.0 judged.1;
       stands = stands_told a.c a.n bytes (state a.at.machine a.main.now a.swap.now) c.requires.0 c.answer-theirs.ensures.state c.answer-ours.auto.memory judged.0;
     }

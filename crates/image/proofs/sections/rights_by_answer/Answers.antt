@@ -5,8 +5,8 @@ use Rattle.image.specs.Sections.{rights_by_answer}
 use borrow.Author.Rules.{rules}
 use Rattle.image.proofs.sections.rights_by_answer.Goals as goal
 
-pub returns-in-Image : goal.returns-in-Image
-returns-in-Image c = rw c.in-Image.is c.rights_of.ensures
+pub returns-in-Ok : goal.returns-in-Ok
+returns-in-Ok c = rw c.in-Ok.is c.rights_of.ensures
 
-pub returns-in-NotImage : goal.returns-in-NotImage
-returns-in-NotImage c = cut_none _ _ _ refl (sym (ap (rights_by_answer _) c.in-NotImage.is)) (search rules) refl
+pub returns-in-Err : goal.returns-in-Err
+returns-in-Err c = cut_none _ _ _ refl (sym (ap (rights_by_answer _) c.in-Err.is)) (search rules) refl

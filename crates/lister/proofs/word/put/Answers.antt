@@ -1,40 +1,36 @@
 -- `put`: the row that the word's key finds, where it makes the whole word; else one number.
-use mathlib.Core.Path.{◌∙◌}
+use mathlib.Core.Path.{sym, ◌∙◌}
 use native.Mathlib.Omega.{arith}
 use lib.ListN.{length-set}
 use Rattle.text.proofs.Appending.{byte, joined, same, length_appended}
-use Rattle.lister.proofs.Rows.{a_row, no_row, by_name}
+use Rattle.lister.proofs.Rows.{no_row, not_filled, by_name}
 use Rattle.lister.proofs.word.put.Goals as goal
 
-pub returns : goal.returns
-returns c =
-    let name = c.put_name-to in
-    let w = c.args.w in
-    let one = a_row w _ c.keyed-row.ensures c.if-row-eq-ROWS.false in
-    let space = byte name.new.out name.result 32 (omega (arith, length_appended name.ensures.0)) in
-    same (joined name.ensures.0 (joined space c.put_pieces.ensures))
-    (by_name w _ c.keyed-row.ensures one (omega (arith, c.filled-full.ensures)))
+pub returns-in_default : goal.returns-in_default
+returns-in_default c = same c.put_number.ensures.0 (no_row c.args.w _ c.keyed.ensures.same c.in_default.is)
 
-pub returns-then-row-eq-ROWS : goal.returns-then-row-eq-ROWS
-returns-then-row-eq-ROWS c =
-    same c.put_number.ensures.0 (no_row c.args.w _ c.keyed-row.ensures c.if-row-eq-ROWS.true)
+pub returns-then-not-whole : goal.returns-then-not-whole
+returns-then-not-whole c =
+    same c.put_number-then-not-whole.ensures.0
+    (not_filled c.args.w _ c.keyed.ensures.same c.in-Some.row c.in-Some.is (λ e. c.if-not-whole.true (c.filled-full.ensures ∙ e)))
 
-pub filled-full-requires : goal.filled-full-requires
-filled-full-requires c =
-    (c.requires.0, a_row c.args.w _ c.keyed-row.ensures c.if-row-eq-ROWS.false)
+pub put-to-requires : goal.put-to-requires
+put-to-requires c = omega (arith, c.in-Some.ensures.formed.0)
 
-pub put_name-to-requires : goal.put_name-to-requires
-put_name-to-requires c =
-    (c.requires.0, a_row c.args.w _ c.keyed-row.ensures c.if-row-eq-ROWS.false, omega arith)
+pub bounds-out-to : goal.bounds-out-to
+bounds-out-to c = omega (arith, c.in-Some.ensures.formed.0, length_appended c.put-to.ensures)
 
 pub put_pieces-requires : goal.put_pieces-requires
 put_pieces-requires c =
-    let w = c.args.w in (
-      c.requires.0,
-      a_row w _ c.keyed-row.ensures c.if-row-eq-ROWS.false,
-      simp length-set (omega (arith, length_appended c.put_name-to.ensures.0)),
-    )
+    (c.in-Some.ensures.formed, simp length-set (omega (arith, c.in-Some.ensures.formed.0, length_appended c.put-to.ensures)))
 
 pub shape_of-out : goal.shape_of-out
 shape_of-out c =
-    length_appended c.put_pieces.ensures ∙ simp length-set (length_appended c.put_name-to.ensures.0)
+    length_appended c.put_pieces.ensures ∙ simp length-set (length_appended c.put-to.ensures)
+
+pub returns : goal.returns
+returns c =
+    let name = c.put-to in
+    let space = byte name.new.out name.result 32 (omega (arith, c.in-Some.ensures.formed.0, length_appended name.ensures)) in
+    same (joined name.ensures (joined space c.put_pieces.ensures))
+    (by_name c.args.w _ c.keyed.ensures.same c.in-Some.row c.in-Some.is (sym c.filled-full.ensures ∙ c.if-not-whole.false))

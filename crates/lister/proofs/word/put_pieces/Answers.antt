@@ -1,40 +1,37 @@
--- `put_pieces`: after k pieces the text of the first k stands in the buffer.
-use mathlib.Core.Path.{sym, ap, ◌∙◌}
-use mathlib.Core.List.{◌++◌}
+-- `put_pieces`: the text of the pieces so far stands in the buffer.
+use mathlib.Core.Path.{sym, ap}
 use native.Mathlib.Omega.{arith}
-use lib.ListN.{take}
 use lib.Seq.{take_all}
 use Rattle.text.proofs.Appending.{nothing, joined, same, length_appended}
-use Rattle.notation.specs.Listing.{piece_text, pieces_text}
+use Rattle.notation.specs.Listing.{pieces_text}
 use Rattle.notation.specs.declared.Piece.TheVariants.{Mark}
-use Rattle.mnemonics.specs.Rows.{row_at}
 use Rattle.lister.proofs.Pieces.{text_none, text_next}
+use borrow.Author.Rules.{rules}
 use Rattle.lister.proofs.word.put_pieces.Goals as goal
 
-pub loop-k-init : goal.loop-k-init
-loop-k-init c =
+pub loop-piece-init : goal.loop-piece-init
+loop-piece-init c =
     let a = c.args in
-    (omega arith, omega arith, same (nothing a.out.now a.at (omega arith)) (sym (text_none a.w)))
+    (omega arith, same (nothing a.out.now a.at (omega (arith, c.requires.1))) (sym (text_none a.w)))
 
 pub put_piece-to-requires : goal.put_piece-to-requires
-put_piece-to-requires c = (omega (arith, length_appended c.loop-k.invariant.2), c.piece.ensures.1)
+put_piece-to-requires c =
+    let v = c.loop-piece in
+    (omega (arith, length_appended v.invariant.1, v.invariant.0, c.requires.0.1, c.loop-piece-test.true), c.requires.0.2 v.piece-index (Mark 0) (search rules))
 
-pub loop-k-preserved : goal.loop-k-preserved
-loop-k-preserved c =
-    let v = c.loop-k in
-    let a = c.args in
-    let ps = (row_at a.row).pieces in
-    let e = ap (λ p. pieces_text (take v.k ps) a.w ++ piece_text p a.w) c.piece.ensures.0 in (
-      omega arith,
-      omega arith,
-      same (joined v.invariant.2 c.put_piece-to.ensures.0) (e ∙ sym (text_next ps v.k (Mark 0) (omega arith) a.w)),
+pub loop-piece-preserved : goal.loop-piece-preserved
+loop-piece-preserved c =
+    let v = c.loop-piece in
+    let a = c.args in (
+      omega (arith, v.invariant.0, c.put_piece-to.ensures.1),
+      same (joined v.invariant.1 c.put_piece-to.ensures.0) (sym (text_next a.row.now.pieces.now v.piece-index (Mark 0) (search rules) a.w)),
     )
 
 pub shape_of-out : goal.shape_of-out
-shape_of-out c = length_appended c.loop-k.invariant.2
+shape_of-out c = length_appended c.loop-piece.invariant.1
 
 pub returns : goal.returns
 returns c =
-    let v = c.loop-k in
+    let v = c.loop-piece in
     let a = c.args in
-    same v.invariant.2 (ap (λ l. pieces_text l a.w) (take_all v.k (row_at a.row).pieces (omega arith)))
+    same v.invariant.1 (ap (λ l. pieces_text l a.w) (take_all v.piece-index a.row.now.pieces.now (search rules)))

@@ -5,4 +5,4 @@ use Rattle.loading.proofs.fresh.machine.Goals as goal
 
 pub returns : goal.returns
 unfolding fresh
-returns c = λ l frames ptl start. c.blank.ensures ∙ simp (c.meant.ensures, c.wrapping_add_u32.ensures.value, frames, ptl, start)
+returns c = λ l frames ptl start. c.blank.ensures ∙ simp (c.meant.ensures, frames, ptl, start)

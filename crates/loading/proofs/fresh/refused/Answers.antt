@@ -1,7 +1,6 @@
 -- `fresh::refused`: the record of zeros.
-use Rattle.std.proofs.Common.{ap}
-use Rattle.model.specs.declared.Verdict.TheVariants.{Refused}
+use Rattle.std.proofs.Common.{ap, Err}
 use Rattle.loading.proofs.fresh.refused.Goals as goal
 
 pub returns : goal.returns
-returns c = ap (λ m. record { machine = m; verdict = Refused c.args.refusal }) c.blank.ensures
+returns c = ap (λ m. record { machine = m; verdict = Err c.args.refusal }) c.blank.ensures

@@ -1,18 +1,17 @@
 -- `memory::put_entries`: the entries of the first x pages have come.
-use Rattle.std.proofs.Common.{◌*◌, length, refl, ap, ◌∙◌, arith, rules}
+use Rattle.std.proofs.Common.{◌*◌, length, refl, ap, ◌∙◌, arith}
 use Rattle.model.specs.Bytes.{store}
 use Rattle.model.specs.Image.{invalid_entry, invalid_entries}
 use Rattle.laws.proofs.Bytes.{length-store}
 use Rattle.loading.proofs.Filled.{entries_step, entries_all}
-use borrow.Author.Rules.{rules}
 use Rattle.loading.proofs.memory.put_entries.Goals as goal
 
 pub loop-x-init : goal.loop-x-init
 unfolding invalid_entries
-loop-x-init c = (search rules, refl, refl)
+loop-x-init c = (refl, refl)
 
-pub put_word-requires : goal.put_word-requires
-put_word-requires c = omega arith
+pub put_number-requires : goal.put_number-requires
+put_number-requires c = omega arith
 
 pub loop-x-preserved : goal.loop-x-preserved
 loop-x-preserved c =
@@ -20,18 +19,17 @@ loop-x-preserved c =
     let v = c.loop-x.invariant in
     let a = c.args in
     let e = c.entry in
-    let p = c.put_word in (
-      omega arith,
-      ap length p.ensures ∙ length-store 4 _ (4 * i) e.result ∙ v.1,
-      p.ensures ∙ ap (λ m. store 4 m (4 * i) e.result) v.2
+    let p = c.put_number in (
+      ap length p.ensures ∙ length-store 4 _ (4 * i) e.result ∙ v.0,
+      p.ensures ∙ ap (λ m. store 4 m (4 * i) e.result) v.1
           ∙ entries_step a.rights.now a.main.now i (omega arith) (omega arith) e.result
-          (e.ensures ∙ ap invalid_entry c.wide.ensures.0),
+          (e.ensures ∙ ap invalid_entry c.from.ensures),
     )
 
 pub shape_of-main : goal.shape_of-main
-shape_of-main c = c.loop-x.invariant.1
+shape_of-main c = c.loop-x.invariant.0
 
 pub returns : goal.returns
 returns c =
     let a = c.args in
-    c.loop-x.invariant.2 ∙ entries_all a.rights.now a.main.now c.loop-x.x (omega arith) (omega arith)
+    c.loop-x.invariant.1 ∙ entries_all a.rights.now a.main.now c.loop-x.x (omega arith) (omega arith)

@@ -5,5 +5,5 @@ use Rattle.paging.proofs.table.bring_entry.Goals as goal
 
 pub returns : goal.returns
 returns c =
-    entry_written _ _ _ _ _ _ _ c.put_word.ensures c.entry_at.ensures
+    entry_written _ _ _ _ _ _ _ c.put_number.ensures c.entry_at.ensures
     (omega (arith, c.kept.ensures, c.ppx_part.ensures, c.entry-e.ensures))

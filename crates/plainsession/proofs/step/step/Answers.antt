@@ -7,7 +7,7 @@ use Rattle.text.specs.Text.{hex_of}
 use Rattle.text.proofs.Appending.{same}
 use Rattle.answerlines.specs.Lines.{word_line}
 use Rattle.script.specs.Table.{call_row}
-use Rattle.script.proofs.Asked.{short_rest, rest_keeps, lent_long}
+use Rattle.script.proofs.Asked.{read_as, short_rest, rest_keeps, lent_long}
 use Rattle.plainsession.specs.Table.{change_row}
 use Rattle.plainsession.proofs.Reading.{line_known}
 use Rattle.plainsession.proofs.Spelled.{word_short, word_spelled_at}
@@ -16,52 +16,52 @@ use Rattle.plainsession.proofs.step.step.Goals as goal
 
 pub slice_bounds-digits-count : goal.slice_bounds-digits-count
 slice_bounds-digits-count c =
-    (line_known c.args.line.now c.parse.ensures c.in-Calls.is).0
+    (line_known c.args.line.now c.parse.ensures (read_as c.in-Ok-Calls.is c.in-Ok-Calls.field-0-is)).0
 
 pub slice_bounds-change-count : goal.slice_bounds-change-count
 slice_bounds-change-count c =
-    (line_known c.args.line.now c.parse.ensures c.in-Changes.is).0
+    (line_known c.args.line.now c.parse.ensures (read_as c.in-Ok-Changes.is c.in-Ok-Changes.field-0-is)).0
 
 pub overflow_cast-bad : goal.overflow_cast-bad
 overflow_cast-bad c =
-    omega (arith, c.requires.1, line_known c.args.line.now c.parse.ensures c.in-Bad.is)
+    omega (arith, c.requires.1, line_known c.args.line.now c.parse.ensures c.in-Err.is)
 
 pub slice_bounds-digits-start : goal.slice_bounds-digits-start
 slice_bounds-digits-start c =
-    (line_known c.args.line.now c.parse.ensures c.in-Calls.is).0
+    (line_known c.args.line.now c.parse.ensures (read_as c.in-Ok-Calls.is c.in-Ok-Calls.field-0-is)).0
 
-pub slice_bounds-answer-end-in-Calls : goal.slice_bounds-answer-end-in-Calls
-slice_bounds-answer-end-in-Calls c =
+pub slice_bounds-answer-end-in-Ok-Calls : goal.slice_bounds-answer-end-in-Ok-Calls
+slice_bounds-answer-end-in-Ok-Calls c =
     let a = c.args in
     lent_long a.at.memory a.memory.now 327680 c.requires.0.lent.memory_fits c.requires.0.room.memory_long
 
-pub slice_bounds-answer-end-in-Calls-3 : goal.slice_bounds-answer-end-in-Calls-3
-slice_bounds-answer-end-in-Calls-3 c =
+pub slice_bounds-answer-end-in-Ok-Calls-3 : goal.slice_bounds-answer-end-in-Ok-Calls-3
+slice_bounds-answer-end-in-Ok-Calls-3 c =
     let a = c.args in
     lent_long a.at.rights a.rights.now 80 c.requires.0.lent.rights_fits c.requires.0.room.rights_long
 
 pub answer-done-requires : goal.answer-done-requires
 answer-done-requires c =
     let l = c.args.line.now in
-    let g = c.in-Calls in
+    let g = c.in-Ok-Calls in
     let n = g.n in
-    (omega (arith, c.requires.0.left), short_rest l n.hex c.requires.1, rest_keeps l n.hex (call_row g.c) n (line_known l c.parse.ensures g.is).1)
+    (omega (arith, c.requires.0.left), short_rest l n.hex c.requires.1, rest_keeps l n.hex (call_row g.c) n (line_known l c.parse.ensures (read_as g.is g.field-0-is)).1)
 
-pub slice_bounds-sums_line-end-in-Sum-4 : goal.slice_bounds-sums_line-end-in-Sum-4
-slice_bounds-sums_line-end-in-Sum-4 c =
+pub slice_bounds-sums_line-end-in-Ok-Sum-4 : goal.slice_bounds-sums_line-end-in-Ok-Sum-4
+slice_bounds-sums_line-end-in-Ok-Sum-4 c =
     let a = c.args in
     lent_long a.at.rights a.rights.now 80 c.requires.0.lent.rights_fits c.requires.0.room.rights_long
 
 pub slice_bounds-change-start : goal.slice_bounds-change-start
 slice_bounds-change-start c =
-    (line_known c.args.line.now c.parse.ensures c.in-Changes.is).0
+    (line_known c.args.line.now c.parse.ensures (read_as c.in-Ok-Changes.is c.in-Ok-Changes.field-0-is)).0
 
 pub change-next-requires : goal.change-next-requires
 change-next-requires c =
     let l = c.args.line.now in
-    let g = c.in-Changes in
+    let g = c.in-Ok-Changes in
     let n = g.n in
-    (c.requires.0.lent, c.requires.0.room.memory_long, c.requires.0.room.rights_long, rest_keeps l n.hex (change_row g.c) n (line_known l c.parse.ensures g.is).1)
+    (c.requires.0.lent, c.requires.0.room.memory_long, c.requires.0.room.rights_long, rest_keeps l n.hex (change_row g.c) n (line_known l c.parse.ensures (read_as g.is g.field-0-is)).1)
 
 pub slice_bounds-hex_line-end : goal.slice_bounds-hex_line-end
 slice_bounds-hex_line-end c =
@@ -69,38 +69,38 @@ slice_bounds-hex_line-end c =
 
 pub hex_line-requires : goal.hex_line-requires
 hex_line-requires c =
-    let g = c.in-Changes in
-    let word = word_spelled_at c.args.line.now c.parse.ensures g.c g.n g.is c.find-word.result c.find-word.ensures.place in
+    let g = c.in-Ok-Changes in
+    let word = word_spelled_at c.args.line.now c.parse.ensures g.c g.n (read_as g.is g.field-0-is) c.find-word.result c.find-word.ensures.place in
     omega (arith, ap length word, word_short g.c, c.requires.0.left)
 
-pub returns-in-Calls : goal.returns-in-Calls
-returns-in-Calls c =
+pub returns-in-Ok-Calls : goal.returns-in-Ok-Calls
+returns-in-Ok-Calls c =
     let a = c.args in
-    let g = c.in-Calls in
-    call_told a.number a.line.now a.at a.memory.now a.rights.now c.parse.ensures g.c g.n g.is
+    let g = c.in-Ok-Calls in
+    call_told a.number a.line.now a.at a.memory.now a.rights.now c.parse.ensures g.c g.n (read_as g.is g.field-0-is)
     c.told.ensures c.answer-done.ensures c.requires.0.lent
 
-pub returns-in-Sum : goal.returns-in-Sum
-returns-in-Sum c =
+pub returns-in-Ok-Sum : goal.returns-in-Ok-Sum
+returns-in-Ok-Sum c =
     let a = c.args in
-    sum_told a.number a.line.now a.at a.memory.now a.rights.now c.parse.ensures c.in-Sum.is
-    c.told-in-Sum.ensures c.sums_line-to.ensures c.requires.0.lent
+    sum_told a.number a.line.now a.at a.memory.now a.rights.now c.parse.ensures (read_as c.in-Ok-Sum.is c.in-Ok-Sum.field-0-is)
+    c.told-in-Ok-Sum.ensures c.sums_line-to.ensures c.requires.0.lent
 
-pub returns-in-Changes : goal.returns-in-Changes
+pub returns-in-Ok-Changes : goal.returns-in-Ok-Changes
 unfolding hex_of
-returns-in-Changes c =
+returns-in-Ok-Changes c =
     let a = c.args in
-    let g = c.in-Changes in
-    let word = word_spelled_at a.line.now c.parse.ensures g.c g.n g.is c.find-word.result c.find-word.ensures.place in
+    let g = c.in-Ok-Changes in
+    let word = word_spelled_at a.line.now c.parse.ensures g.c g.n (read_as g.is g.field-0-is) c.find-word.result c.find-word.ensures.place in
     let left = c.change-next.ensures in (
-      changed_told a.number a.line.now a.at a.memory.now a.rights.now c.parse.ensures g.c g.n g.is
+      changed_told a.number a.line.now a.at a.memory.now a.rights.now c.parse.ensures g.c g.n (read_as g.is g.field-0-is)
           (record { desk_is = left.0; text = same c.hex_line.ensures (ap word_line word); goes = refl }),
       left.1,
     )
 
-pub returns-in-Bad : goal.returns-in-Bad
-returns-in-Bad c =
+pub returns-in-Err : goal.returns-in-Err
+returns-in-Err c =
     let a = c.args in
-    let g = c.in-Bad in
+    let g = c.in-Err in
     bad_told a.number a.line.now a.at a.memory.now a.rights.now c.parse.ensures g.column g.is
-    c.told-in-Bad.ensures c.numbers_line.ensures c.requires.0.lent
+    c.told-in-Err.ensures c.numbers_line.ensures c.requires.0.lent

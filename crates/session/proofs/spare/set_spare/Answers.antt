@@ -9,4 +9,4 @@ returns-then-lent-at c = outside _ _ _ _ _ _ c.entry_at-at.ensures (search rules
 
 pub returns : goal.returns
 returns c =
-    inside _ _ _ _ _ _ c.entry_at-at.ensures (search rules) _ c.word_at-e.ensures _ _ c.put_word.ensures (omega arith)
+    inside _ _ _ _ _ _ c.entry_at-at.ensures (search rules) _ c.number_at-e.ensures _ _ c.put_number.ensures (omega arith)

@@ -7,7 +7,7 @@ use borrow.Author.Rules.{rules}
 use Rattle.sound.proofs.clean.frames_clean.Goals as goal
 
 pub loop-f-init : goal.loop-f-init
-loop-f-init c = (search rules, none_yet _)
+loop-f-init c = none_yet _
 
 pub clean-requires : goal.clean-requires
 clean-requires c =
@@ -23,8 +23,8 @@ returns-then-not-clean c =
 pub loop-f-preserved : goal.loop-f-preserved
 loop-f-preserved c =
     let a = c.args in
-    (search rules, one_more _ _ c.loop-f.invariant.1 (passed _ _ (in_book a.s a.main.now a.swap.now a.marks a.used a.held.now c.loop-f.f _ c.clean.ensures) (ap not c.if-not-clean.false)))
+    one_more _ _ c.loop-f.invariant (passed _ _ (in_book a.s a.main.now a.swap.now a.marks a.used a.held.now c.loop-f.f _ c.clean.ensures) (ap not c.if-not-clean.false))
 
 pub returns : goal.returns
 returns c =
-    λ hand. all_passed _ _ _ c.loop-f.invariant.1 (search rules) (search rules)
+    λ hand. all_passed _ _ _ c.loop-f.invariant (search rules) (search rules)

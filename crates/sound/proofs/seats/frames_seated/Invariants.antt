@@ -1,7 +1,6 @@
 -- `seats::frames_seated`: the first f pages are in the table, and seated.
 use mathlib.Core.Path.{◌≡◌}
 use mathlib.Core.Bool.{true}
-use Prim.Native.Nat.{◌≤◌, ◌-◌}
 use lib.Dec.{ltb}
 use Rattle.model.specs.Choice.{every_below}
 use Rattle.model.specs.Frames.{page_in}
@@ -11,8 +10,5 @@ use Rattle.sound.proofs.seats.frames_seated.Given as goal
 
 abbrev pub invariant-loop-f : goal.invariant-loop-f
 invariant-loop-f l =
-    (l.f ≤ l.used) × (every_below l.f (λ k. ltb (page_in (book_of l.used 0 l.held 0) k).0 l.s.ptl) ≡ true)
+    (every_below l.f (λ k. ltb (page_in (book_of l.used 0 l.held 0) k).0 l.s.ptl) ≡ true)
     × (every_below l.f (λ k. seated l.s (book_of l.used 0 l.held 0) l.main k) ≡ true)
-
-abbrev pub decreases-loop-f : goal.decreases-loop-f
-decreases-loop-f l = l.used - l.f

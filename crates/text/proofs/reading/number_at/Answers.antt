@@ -1,84 +1,48 @@
--- `reading::number_at`: `Reading` holds after each digit.
-use mathlib.Core.Path.{◌≡◌, refl, sym, ap, ◌∙◌}
-use mathlib.Core.Bool.{true}
-use mathlib.Core.List.{[]}
-use Prim.Native.Nat.{◌+◌, ◌*◌, ◌-◌, ◌<◌}
+-- `reading::number_at`: what is left of the digits, behind the value so far, says the same number.
+use mathlib.Core.Path.{refl, sym, ◌∙◌}
+use Prim.Native.Nat.{◌+◌, ◌-◌, ◌*◌}
 use native.Mathlib.Omega.{arith}
-use lib.ListN.{length, get_or, drop}
-use Rattle.text.specs.Reading.{front, is_digit, decimal, number_at}
-use Rattle.text.proofs.Fronts.{front_stop}
-use Rattle.text.proofs.Numbers.{decimal_grows, number_large, number_none, number_read, one_more, one_further, digit_inside, digit_low}
+use borrow.Author.Tests.{eqb-true, eqb-false}
+use Rattle.std.proofs.lemmas.List.{nil_from_length}
+use lib.ListN.{drop, get_or}
+use Rattle.text.proofs.Numbers.{decimal_grows, decimal_more, decimal_all, number_large, number_none, number_read, of_digits, digit_high}
 use Rattle.text.proofs.reading.number_at.Goals as goal
 
-pub overflow_cast-result : goal.overflow_cast-result
-overflow_cast-result c = omega (arith, c.loop-value.invariant.small)
+pub loop-c-init : goal.loop-c-init
+loop-c-init c = (omega arith, refl)
 
-pub loop-value-init : goal.loop-value-init
-loop-value-init c = record { from = omega arith; inside = omega arith; small = omega arith; value = refl; place = refl }
-
-pub overflow_mul-value : goal.overflow_mul-value
-overflow_mul-value c = omega (arith, c.loop-value.invariant.small)
-
-pub bounds-line-i : goal.bounds-line-i
-bounds-line-i c =
-    let line = c.args.line.now in
-    digit_inside line c.loop-value.i (sym c.digit_at.ensures ∙ c.loop-value-test.true)
-
-pub overflow_sub-value : goal.overflow_sub-value
-overflow_sub-value c =
-    let line = c.args.line.now in
-    omega (arith, digit_low line c.loop-value.i (sym c.digit_at.ensures ∙ c.loop-value-test.true))
-
-pub overflow_cast-value : goal.overflow_cast-value
-overflow_cast-value c = omega (arith, c.type_inv.line c.loop-value.i)
-
-pub overflow_add-value : goal.overflow_add-value
-overflow_add-value c =
-    let loop = c.loop-value in
-    omega (arith, c.type_inv.line loop.i, loop.invariant.small)
-
-pub returns-then-bound-value : goal.returns-then-bound-value
-unfolding number_at
-returns-then-bound-value c =
-    let line = c.args.line.now in
-    let v = c.loop-value in
-    let t : is_digit (get_or line v.i 0) ≡ true = sym c.digit_at.ensures ∙ c.loop-value-test.true in
-    let h : v.i < length line = digit_inside line v.i t in
-    let next = 10 * v.value + (get_or line v.i 0 - 48) in
-    number_large _ _ _ (omega (arith, decimal_grows next (front is_digit (drop (v.i + 1) line)), one_more v.invariant h t))
-
-pub overflow_add-i : goal.overflow_add-i
-overflow_add-i c =
-    let line = c.args.line.now in
-    omega (arith, digit_inside line c.loop-value.i (sym c.digit_at.ensures ∙ c.loop-value-test.true))
-
-pub loop-value-smaller : goal.loop-value-smaller
-loop-value-smaller c =
-    let line = c.args.line.now in
-    omega (arith, digit_inside line c.loop-value.i (sym c.digit_at.ensures ∙ c.loop-value-test.true))
-
-pub loop-value-preserved : goal.loop-value-preserved
-loop-value-preserved c =
-    let line = c.args.line.now in
-    let v = c.loop-value in
-    let t : is_digit (get_or line v.i 0) ≡ true = sym c.digit_at.ensures ∙ c.loop-value-test.true in
-    let h : v.i < length line = digit_inside line v.i t in
-    record { from = omega arith; inside = omega arith; small = omega arith; value = one_more v.invariant h t; place = one_further v.invariant h t }
-
-pub returns-then-i-at : goal.returns-then-i-at
-unfolding number_at
-returns-then-i-at c =
+pub overflow_sub-c : goal.overflow_sub-c
+overflow_sub-c c =
     let a = c.args in
-    let v = c.loop-value in
-    let e : v.i ≡ a.at = omega arith in
-    let s : front is_digit (drop v.i a.line.now) ≡ [] = front_stop is_digit a.line.now v.i (sym c.digit_at.ensures ∙ c.loop-value-test.false)
-    in number_none _ _ _ (rw e at s)
+    digit_high a.line.now _ a.at a.most c.requires c.digits_from-digits.ensures.value c.loop-c.c-index (omega arith)
 
-pub returns : goal.returns
-unfolding number_at decimal
-returns c =
-    let line = c.args.line.now in
-    let v = c.loop-value in
-    let s : front is_digit (drop v.i line) ≡ [] = front_stop is_digit line v.i (sym c.digit_at.ensures ∙ c.loop-value-test.false) in
-    number_read _ _ _ v.value v.i (sym v.invariant.value ∙ ap (decimal v.value) s) (omega (arith, v.invariant.place, ap length s))
-    v.invariant.small (omega (arith, v.invariant.from))
+pub returns-then-bound-value-clause-value : goal.returns-then-bound-value-clause-value
+returns-then-bound-value-clause-value c =
+    let a = c.args in
+    let v = c.loop-c in
+    let ds = c.digits_from-digits.result.now in
+    let m = decimal_more v.value ds v.c-index (omega arith) in
+    let next = 10 * v.value + (get_or ds v.c-index 0 - 48) in
+    of_digits a.line.now ds a.at a.most c.requires c.digits_from-digits.ensures.value
+    (number_large ds a.at a.most (omega (arith, decimal_grows next (drop (v.c-index + 1) ds), v.invariant.1)))
+
+pub loop-c-preserved : goal.loop-c-preserved
+loop-c-preserved c =
+    let v = c.loop-c in
+    let ds = c.digits_from-digits.result.now in
+    let m = decimal_more v.value ds v.c-index (omega arith) in
+    (omega arith, rw c.from.ensures (m ∙ v.invariant.1))
+
+pub returns-then-is_empty-clause-value : goal.returns-then-is_empty-clause-value
+returns-then-is_empty-clause-value c =
+    let a = c.args in
+    of_digits a.line.now _ a.at a.most c.requires c.digits_from-digits.ensures.value (number_none _ a.at a.most (nil_from_length _ (eqb-true _ _ (sym c.is_empty.ensures ∙ c.if-is_empty.true))))
+
+pub returns-clause-value : goal.returns-clause-value
+returns-clause-value c =
+    let a = c.args in
+    let v = c.loop-c in
+    let ds = c.digits_from-digits.result.now in
+    let n = sym v.invariant.1 ∙ decimal_all v.value ds v.c-index (omega arith) in
+    of_digits a.line.now ds a.at a.most c.requires c.digits_from-digits.ensures.value
+    (number_read ds a.at a.most v.value _ n refl (omega arith) (omega (arith, eqb-false _ _ (sym c.is_empty.ensures ∙ c.if-is_empty.false))))

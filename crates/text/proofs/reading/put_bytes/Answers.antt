@@ -12,7 +12,7 @@ use Rattle.text.proofs.reading.put_bytes.Goals as goal
 pub loop-k-init : goal.loop-k-init
 loop-k-init c =
     let a = c.args in
-    (omega arith, refl, paste-zero a.into.now a.at (bytes_of a.pairs.now))
+    (refl, paste-zero a.into.now a.at (bytes_of a.pairs.now))
 
 pub loop-k-preserved : goal.loop-k-preserved
 loop-k-preserved c =
@@ -23,17 +23,13 @@ loop-k-preserved c =
     let e : put ≡ get_or bytes v.k 0 =
     rw (c.hex_value.ensures.0, c.hex_value-in-loop-k.ensures.0) (sym (byte_at_lem a.pairs.now v.k (omega arith)))
     in (
-      omega arith,
-      length-set v.into (a.at + v.k) put ∙ v.invariant.1,
-      ap (λ l. set l (a.at + v.k) put) v.invariant.2 ∙ ap (λ x. set (paste a.into.now a.at bytes v.k) (a.at + v.k) x) e
+      length-set v.into (a.at + v.k) put ∙ v.invariant.0,
+      ap (λ l. set l (a.at + v.k) put) v.invariant.1 ∙ ap (λ x. set (paste a.into.now a.at bytes v.k) (a.at + v.k) x) e
           ∙ over_more a.into.now a.at bytes v.k (omega arith) (omega (arith, length-bytes_of a.pairs.now)),
     )
-
-pub shape_of-into : goal.shape_of-into
-shape_of-into c = c.loop-k.invariant.1
 
 pub returns : goal.returns
 returns c =
     let v = c.loop-k in
     let a = c.args in
-    v.invariant.2 ∙ over_done a.into.now a.at (bytes_of a.pairs.now) v.k (omega (arith, length-bytes_of a.pairs.now))
+    v.invariant.1 ∙ over_done a.into.now a.at (bytes_of a.pairs.now) v.k (omega (arith, length-bytes_of a.pairs.now))

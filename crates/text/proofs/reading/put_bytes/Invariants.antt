@@ -1,6 +1,5 @@
 -- `reading::put_bytes`: after k turns the first k bytes stand in the buffer.
 use mathlib.Core.Path.{◌≡◌}
-use Prim.Native.Nat.{◌-◌, ◌≤◌, ◌/◌}
 use lib.ListN.{length}
 use lib.Seq.{paste}
 use Rattle.text.specs.Reading.{bytes_of}
@@ -8,7 +7,4 @@ use Rattle.text.proofs.reading.put_bytes.Given as goal
 
 abbrev pub invariant-loop-k : goal.invariant-loop-k
 invariant-loop-k l =
-    (l.k ≤ length l.pairs / 2) × (length l.into ≡ length l.initial.into) × (l.into ≡ paste l.initial.into l.at (bytes_of l.pairs) l.k)
-
-abbrev pub decreases-loop-k : goal.decreases-loop-k
-decreases-loop-k l = length l.pairs / 2 - l.k
+    (length l.into ≡ length l.initial.into) × (l.into ≡ paste l.initial.into l.at (bytes_of l.pairs) l.k)

@@ -1,20 +1,20 @@
--- `find`: before `at` the byte stands nowhere, so that the search goes on behind it.
+-- `find`: the place of the first in the part, or the part's length.
+use Prim.Native.Nat.{◌-◌}
 use native.Mathlib.Omega.{arith}
-use Rattle.text.proofs.Finding.{found_here, found_further, found_nowhere}
+use Rattle.std.proofs.Common.{eqb, ◌∙◌, rules, tests}
+use Rattle.std.proofs.lemmas.Iterator.{YieldsList-from_slice}
+use Rattle.std.proofs.lemmas.Iterator.Search.{position_from_yields_List}
+use Rattle.std.proofs.lemmas.Slice.{between_is}
+use Rattle.text.specs.Scan.{slice}
+use Rattle.text.proofs.Finding.{found_or, position_found, length-slice, position_inside}
 use Rattle.text.proofs.scan.find.Goals as goal
 
-pub returns-then-s-at-clause-place : goal.returns-then-s-at-clause-place
-returns-then-s-at-clause-place c =
-    let a = c.args in
-    omega (arith, found_here a.s.now c.loop-at.at a.to a.b (omega arith) (omega arith) c.if-s-at.true)
-
-pub loop-at-preserved : goal.loop-at-preserved
-loop-at-preserved c =
-    let a = c.args in
-    let e = found_further a.s.now c.loop-at.at a.to a.b (omega arith) (omega arith) c.if-s-at.false in
-    record { from = omega arith; to = omega arith; same = omega (arith, e) }
-
 pub returns-clause-place : goal.returns-clause-place
+unfolding slice
 returns-clause-place c =
     let a = c.args in
-    omega (arith, found_nowhere a.s.now c.loop-at.at a.to a.b (omega arith) (omega arith))
+    let part = slice a.from a.to a.s.now in
+    let p =
+    position_from_yields_List (λ x. eqb x a.b) _ _ c.position.result c.position.ensures.ran (YieldsList-from_slice part (c.iter.ensures.rest ∙ between_is a.s.now a.from a.to)) (λ x b q k. search (rules, tests))
+    in let u = found_or _ _ (a.to - a.from) p (position_inside a.b part) (length-slice a.s.now a.from a.to (omega arith) (omega arith)) in
+    omega (arith, c.unwrap_or.ensures ∙ u ∙ position_found a.b part)

@@ -1,0 +1,2 @@
+-- What the contracts of the arithmetic name.
+pub mod Relations

@@ -1,0 +1,2 @@
+-- What the two passes of the lister go by.
+pub mod Words

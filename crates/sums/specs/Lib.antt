@@ -1,2 +1,0 @@
--- What the readers of a sum ask of each other.
-pub mod Small

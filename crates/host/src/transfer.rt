@@ -31,11 +31,11 @@ fn read_part(s: Shape, main: &[u8], swap: &[u8], va: u32, into: &mut [u8])
     match home::home_of(s, main, va) {
         Home::Main(start) => {
             let end = start + into.len();
-            into.copy_from_slice(&main[start..end]);
+            words::copy(&main[start..end], into);
         }
         Home::Swap(start) => {
             let end = start + into.len();
-            into.copy_from_slice(&swap[start..end]);
+            words::copy(&swap[start..end], into);
         }
     }
 }
@@ -48,11 +48,11 @@ fn write_part(s: Shape, main: &mut [u8], swap: &mut [u8], va: u32, from: &[u8])
     match home::home_of(s, main, va) {
         Home::Main(start) => {
             let end = start + from.len();
-            main[start..end].copy_from_slice(from);
+            words::copy(from, &mut main[start..end]);
         }
         Home::Swap(start) => {
             let end = start + from.len();
-            swap[start..end].copy_from_slice(from);
+            words::copy(from, &mut swap[start..end]);
         }
     }
 }

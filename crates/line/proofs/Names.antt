@@ -18,7 +18,7 @@ use Rattle.notation.specs.Table as table
 use Rattle.notation.specs.Sums.{is_blank, byte_at, skipped}
 use Rattle.notation.specs.Line.{name_at, is_named, read_pieces, instruction_at, plain_at, line_at, line_of}
 use Rattle.notation.specs.Answers.{Parsed, wrong}
-use Rattle.mnemonics.specs.Rows.{row_of, row_where}
+use Rattle.mnemonics.specs.Rows.{pieces_of, row_of, row_where}
 use Rattle.mnemonics.specs.declared.Row.{Row}
 use Rattle.mnemonics.proofs.Found.{first_some, first_none}
 
@@ -90,7 +90,7 @@ module _ (s : List ℕ) (at next : ℕ) (e : next ≡ at + length (name_at s at)
     unfolding instruction_at
     unnamed h = sym (first_none behind (Err (wrong Mnemonic at)) (is_named (name_at s at)) found place h)
 
-    pub named : (r : Bor Row) → found ≡ Some r → read_pieces s r.now.pieces.now r.now.base next ≡ instruction_at s at
+    pub named : (r : Bor Row) → found ≡ Some r → read_pieces s (pieces_of r.now) r.now.base next ≡ instruction_at s at
     unfolding instruction_at
     named r h = rw e (sym (first_some behind (Err (wrong Mnemonic at)) (is_named (name_at s at)) found place r h))
 

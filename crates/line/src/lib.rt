@@ -89,11 +89,11 @@ fn ended(s: &[u8], w: u64, n: usize) -> Parsed
 // What stands behind the mnemonic of a row, from a place on.
 fn read_pieces(s: &[u8], row: &Row, from: usize) -> Parsed
     requires { rows.Formed row.now }
-    ensures { result ≡ line.read_pieces s.now row.now.pieces.now row.now.base from }
+    ensures { result ≡ line.read_pieces s.now (rows.pieces_of row.now) row.now.base from }
 {
     let mut w = row.base as u64;
     let mut n = from;
-    for piece in row.pieces {
+    for piece in row.pieces() {
         let (value, next) = read_piece(s, *piece, w, n)?;
         w = value;
         n = next;

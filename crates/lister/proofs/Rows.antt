@@ -8,7 +8,7 @@ use borrow.Author.Tests.{eq-eqb, ne_eqb}
 use Rattle.model.specs.Console.{digits}
 use Rattle.notation.specs.Listing.{is_keyed, filled, pieces_text, by_row, listed}
 use Rattle.notation.specs.Table as table
-use Rattle.mnemonics.specs.Rows.{row_of, row_where}
+use Rattle.mnemonics.specs.Rows.{name_of, pieces_of, row_of, row_where}
 use Rattle.mnemonics.specs.declared.Row.{Row}
 use Rattle.mnemonics.proofs.Found.{first_some, first_none}
 
@@ -31,8 +31,8 @@ module _ (w : ℕ) (found : Option (Bor Row)) (same : option_map (λ r. row_of r
     unfolding listed
     by_row_lem = first_some (by_row w) (digits 9 w) (is_keyed w) found same r h
 
-    pub not_filled : (filled r.now.pieces.now r.now.base w ≡ w → ⊥) → digits 9 w ≡ listed w
+    pub not_filled : (filled (pieces_of r.now) r.now.base w ≡ w → ⊥) → digits 9 w ≡ listed w
     not_filled n = sym (by_row_lem ∙ as_number w (row_of r.now) n)
 
-    pub by_name : filled r.now.pieces.now r.now.base w ≡ w → r.now.name.now ++ 32 ∷ pieces_text r.now.pieces.now w ≡ listed w
+    pub by_name : filled (pieces_of r.now) r.now.base w ≡ w → name_of r.now ++ 32 ∷ pieces_text (pieces_of r.now) w ≡ listed w
     by_name n = sym (by_row_lem ∙ as_row w (row_of r.now) n)

@@ -33,10 +33,10 @@ fn with_piece(p: Piece, v: u64, w: u32) -> u64
 // The word with the fields of w, and zero in every other.
 fn filled(row: &Row, w: u32) -> u64
     requires { rows.Formed row.now }
-    ensures { result ≡ listing.filled row.now.pieces.now row.now.base w }
+    ensures { result ≡ listing.filled (rows.pieces_of row.now) row.now.base w }
 {
     let mut v = row.base as u64;
-    for piece in row.pieces {
+    for piece in row.pieces() {
         v = with_piece(*piece, v, w);
     }
     v
@@ -74,10 +74,10 @@ fn put_piece(out: &mut [u8], at: usize, p: Piece, w: u32) -> usize
 // The pieces of a row.
 fn put_pieces(out: &mut [u8], at: usize, row: &Row, w: u32) -> usize
     requires { rows.Formed row.now × (at + 66 ≤ length out.old) }
-    ensures { Appended out.old at out.new result (listing.pieces_text row.now.pieces.now w) }
+    ensures { Appended out.old at out.new result (listing.pieces_text (rows.pieces_of row.now) w) }
 {
     let mut to = at;
-    for piece in row.pieces {
+    for piece in row.pieces() {
         to = put_piece(out, to, *piece, w);
     }
     to
@@ -96,7 +96,7 @@ pub(crate) fn put(out: &mut [u8], at: usize, w: u32) -> usize
     if !whole {
         return text::put_number(out, at, w);
     }
-    let to = text::put(out, at, row.name);
+    let to = text::put(out, at, row.name());
     out[to] = b' ';
     put_pieces(out, to + 1, row, w)
 }

@@ -36,5 +36,5 @@ pub fn fill_pages(pages: &[u8], ptl: u32, memory: &mut [u8])
     ensures { memory.new ≡ pages.now }
 {
     let n = 4096 * (ptl as usize);
-    memory[..n].copy_from_slice(&pages[..n]);
+    words::copy(&pages[..n], &mut memory[..n]);
 }

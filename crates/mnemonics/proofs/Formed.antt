@@ -15,7 +15,7 @@ use Rattle.notation.specs.Table as table
 use Rattle.notation.specs.Table.{rows, first_row, spelled}
 use Rattle.notation.specs.declared.Piece.{Piece}
 use Rattle.notation.specs.declared.Piece.TheVariants.{Mark, Field}
-use Rattle.mnemonics.specs.Rows.{row_of, row_where, Fine, Formed}
+use Rattle.mnemonics.specs.Rows.{row_of, row_where, pieces_of, Fine, Formed}
 use Rattle.mnemonics.specs.declared.Row.{Row}
 
 abbrev fine : Piece → Bool
@@ -39,7 +39,7 @@ fine_right (Field scale size signed) e =
 formed_right : (r : Row) → formed (row_of r) ≡ true → Formed r
 formed_right r e =
     let f = and_right _ _ e in
-    let all = AllPass-from_list_all fine r.pieces.now (and_right _ _ f) in
+    let all = AllPass-from_list_all fine (pieces_of r) (and_right _ _ f) in
     (leb-true _ _ (and_left _ _ e), leb-true _ _ (and_left _ _ f), λ k d h. fine_right _ (all k d h))
 
 first_formed : (test : table.Row → Bool) (rs : List table.Row) → list_all formed rs ≡ true → (r : table.Row)
@@ -52,7 +52,10 @@ first_formed test (x ∷ rs) e r f = pick (test x) (first_formed test rs (and_ri
     pick true ih f = let g : x ≡ r = cc in subst (λ y. formed y ≡ true) g (and_left (formed x) (list_all formed rs) e)
     pick false ih f = ih f
 
+pub is_formed : (test : table.Row → Bool) (r : Row) → Some (row_of r) ≡ row_where test → Formed r
+is_formed test r e = formed_right r (first_formed test rows all_formed (row_of r) (sym e))
+
 pub found_formed : (test : table.Row → Bool) (r : Option (Bor Row)) → option_map (λ x. row_of x.now) r ≡ row_where test
     → IfSome r (λ x. Formed x.now)
 found_formed test None e = tt
-found_formed test (Some x) e = formed_right x.now (first_formed test rows all_formed (row_of x.now) (sym e))
+found_formed test (Some x) e = is_formed test x.now e

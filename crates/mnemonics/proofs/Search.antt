@@ -1,20 +1,22 @@
--- What is found among the rows in code is what the table's rows have first; and the tests by which the code searches.
-use Rattle.std.specs.Prelude.{Option, Some, None, option_map, if◌then◌else◌, bytes_eq, nat_eq}
+-- What is found among the rows in code is what the table's rows have first; and that no two rows have the same name or word.
+use Rattle.std.specs.Prelude.{Option, Some, None, option_map, if◌then◌else◌}
 use Rattle.std.proofs.Common.{Bor}
-use Rattle.std.specs.List.{find, list_any, list_all}
+use Rattle.std.specs.List.{find, list_any}
 use mathlib.Core.Bool.{Bool, true, false, true≢false, not, ◌&&◌, ◌||◌}
-use mathlib.Core.Path.{◌≡◌, refl, sym, ap, ap₂, ◌∙◌}
+use mathlib.Core.Path.{◌≡◌, refl, sym, ap, ◌∙◌}
 use mathlib.Core.List.{List, [], ◌∷◌, ◌++◌, map, reverse, reverse_aux}
 use Rattle.std.proofs.lemmas.List.{reverse-append}
-use Prim.Native.Nat.{ℕ}
+use Prim.Native.Nat.{ℕ, zero, suc, ◌<◌}
+use native.Mathlib.Omega.{arith}
 use lib.Dec.{eqb}
+use lib.ListN.{length, get_or}
 use borrow.Author.Tests.{eq-eqb, eqb-true}
-use Rattle.laws.proofs.Choice.{and_left, and_right, and_both, same_test}
+use Rattle.laws.proofs.Choice.{and_left, and_right, clash}
 use Rattle.laws.proofs.Bytes.{same_equal, equal_same}
 use Rattle.model.specs.Bytes.{same}
 use Rattle.notation.specs.Table as table
 use Rattle.notation.specs.Table.{rows, first_row, spelled}
-use Rattle.mnemonics.specs.Rows.{row_of, row_where, ends_of}
+use Rattle.mnemonics.specs.Rows.{row_of, row_where}
 use Rattle.mnemonics.specs.declared.Row.{Row}
 
 -- the first of some rows in code, as the table has it
@@ -50,7 +52,7 @@ abbrev or_else : Option table.Row → Option table.Row → Option table.Row
 or_else None y = y
 or_else (Some x) y = Some x
 
-abbrev distinct : (table.Row → table.Row → Bool) → List table.Row → Bool
+abbrev pub distinct : (table.Row → table.Row → Bool) → List table.Row → Bool
 distinct alike [] = true
 distinct alike (r ∷ rs) = not (list_any (alike r) rs) && distinct alike rs
 
@@ -89,6 +91,22 @@ module _ (test : table.Row → Bool) where
         pick false q None f = refl
         pick false q (Some y) f = refl
 
+    -- a row that passes is the first
+    pub first_at : (rs : List table.Row) → distinct alike rs ≡ true → (k : ℕ) (d : table.Row) → k < length rs
+        → test (get_or rs k d) ≡ true → first_row test Some None rs ≡ Some (get_or rs k d)
+    unfolding first_row
+    first_at [] e k d h t = absurd (omega arith)
+    first_at (x ∷ xs) e zero d h t = rw t refl
+    first_at (x ∷ xs) e (suc k) d h t =
+        pick (test x) refl (first_at xs (and_right (not (list_any (alike x) xs)) (distinct alike xs) e) k d (omega arith) t)
+      where
+        pick : (b : Bool) → test x ≡ b → first_row test Some None xs ≡ Some (get_or xs k d)
+            → (if b then Some x else first_row test Some None xs) ≡ Some (get_or xs k d)
+        pick true q f =
+            let n = none_else x q xs (not_true (list_any (alike x) xs) (and_left (not (list_any (alike x) xs)) (distinct alike xs) e)) in
+            clash (cc)
+        pick false q f = f
+
     -- what is found among all of them
     pub found : distinct alike rows ≡ true → (rs : List Row) → map row_of rs ≡ rows → (r : Option (Bor Row))
         → option_map (λ x. x.now) r ≡ find (λ x. test (row_of x)) (reverse rs) → option_map (λ x. row_of x.now) r ≡ row_where test
@@ -101,13 +119,6 @@ module _ (test : table.Row → Bool) where
         twice (Some x) = refl
 
 -- ---- names
-pub same_name : (a b : List ℕ) → bytes_eq a b ≡ same a b
-unfolding same
-same_name [] [] = refl
-same_name [] (y ∷ ys) = refl
-same_name (x ∷ xs) [] = refl
-same_name (x ∷ xs) (y ∷ ys) = ap (λ b. nat_eq x y && b) (same_name xs ys)
-
 pub names_distinct : distinct (λ a b. same a.name b.name) rows ≡ true
 unfolding rows spelled same
 names_distinct = refl
@@ -122,21 +133,3 @@ bases_distinct = refl
 
 pub one_base : (w : ℕ) (a b : table.Row) → eqb a.base w ≡ true → eqb b.base w ≡ true → eqb a.base b.base ≡ true
 one_base w a b p q = eq-eqb a.base b.base (eqb-true a.base w p ∙ sym (eqb-true b.base w q))
-
--- where names have other ends, they are not the same
-ends_test : (r : Row) (name : List ℕ) → eqb r.ends (ends_of r.name.now) ≡ true
-    → (eqb r.ends (ends_of name) && bytes_eq r.name.now name) ≡ same r.name.now name
-ends_test r name e = rw (same_name r.name.now name) (same_test _ _ (λ t. and_right _ _ t) (λ t. and_both _ _ (alike t) t))
-  where
-    alike : same r.name.now name ≡ true → eqb r.ends (ends_of name) ≡ true
-    alike t = eq-eqb r.ends (ends_of name) (eqb-true r.ends (ends_of r.name.now) e ∙ ap ends_of (same_equal r.name.now name t))
-
-pub all_back : (f : Row → Bool) (rs qs : List Row) → list_all f rs ≡ true → list_all f qs ≡ true → list_all f (reverse_aux rs qs) ≡ true
-all_back f [] qs e g = g
-all_back f (r ∷ rs) qs e g = all_back f rs (r ∷ qs) (and_right _ _ e) (and_both _ _ (and_left _ _ e) g)
-
-pub by_ends : (name : List ℕ) (rs : List Row) → list_all (λ r. eqb r.ends (ends_of r.name.now)) rs ≡ true
-    → find (λ r. eqb r.ends (ends_of name) && bytes_eq r.name.now name) rs ≡ find (λ r. same r.name.now name) rs
-by_ends name [] e = refl
-by_ends name (r ∷ rs) e =
-    ap₂ (λ b o. if b then Some r else o) (ends_test r name (and_left _ _ e)) (by_ends name rs (and_right _ _ e))

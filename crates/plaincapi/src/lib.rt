@@ -133,7 +133,7 @@ pub fn brenwythal_plain_view<'a>(
             VirtualPage(page),
         ));
     }
-    into.copy_from_slice(part);
+    words::copy(part, into);
     0
 }
 

@@ -139,3 +139,7 @@ module _ (rights : List ℕ) (va : ℕ) where
       let p : va / 4096 ≡ to / 4096 = omega (arith, q) in
       sym (fetches_by rights to (At to)
       (reach_even 4 to _ (omega (arith, q)) _ (granted rights false to (va / 4096) _ refl f.inside p (ap not f.right)) _ refl) true refl)
+
+-- its word ends within the memory
+pub fetch_inside : (rights bytes : List ℕ) (va : ℕ) → Sized rights bytes → fetches rights va ≡ true → va + 4 ≤ length bytes
+fetch_inside rights bytes va s e = inside rights bytes s false word va _ (fetches_at rights va e) va refl

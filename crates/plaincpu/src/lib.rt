@@ -22,6 +22,7 @@ pub fn fetched(rights: &[u8], va: u32) -> bool
 }
 
 // An attempt whose fetch goes through.
+#[tactic(auto, using(crate::proofs::Ways::fetches_at, crate::proofs::Ways::fetch_inside))]
 pub fn attempt(g: &mut [u32; 32], p: Pcs, rights: &[u8], m: &mut [u8]) -> Outcome
     requires { Sized rights.now m.old × (fetches rights.now p.dpc ≡ true) }
     ensures { one.tried result g.new m.new

@@ -19,7 +19,7 @@ pub fn load(file: &[u8], memory: &mut [u8], rights: &mut [u8]) -> PlainHanded
                 return fresh::refused(Refusal::Room);
             }
             loading::memory::fill_pages(image::pages(file), written.ptl, memory);
-            rights.copy_from_slice(image::rights(file));
+            words::copy(image::rights(file), rights);
             PlainHanded {
                 plain: fresh::plain(written),
                 verdict: Ok(()),

@@ -13,7 +13,7 @@ pub(crate) fn read_bytes(memory: &[u8], va: u32, into: &mut [u8])
     }
     let start = va as usize;
     let end = start + into.len();
-    into.copy_from_slice(&memory[start..end]);
+    words::copy(&memory[start..end], into);
 }
 
 #[tactic(auto, using(crate::proofs::Parts::written_none))]
@@ -26,5 +26,5 @@ pub(crate) fn write_bytes(memory: &mut [u8], va: u32, from: &[u8])
     }
     let start = va as usize;
     let end = start + from.len();
-    memory[start..end].copy_from_slice(from);
+    words::copy(from, &mut memory[start..end]);
 }

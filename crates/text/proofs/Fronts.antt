@@ -6,11 +6,10 @@ use Prim.Native.Nat.{ℕ, zero, suc, ◌+◌, ◌-◌, ◌≤◌, ◌<◌}
 use native.Mathlib.Numerals.{add-one, one-add}
 use native.Mathlib.Omega.{arith}
 use lib.ListN.{length, get_or, take, drop, length-drop, get_or-eq_default}
-use lib.Seq.{drop-cons, drop-nil, take_all, get_or-take}
+use lib.Seq.{drop-cons, drop-nil, take_all}
 use Rattle.std.specs.Prelude.{if◌then◌else◌}
 use Rattle.std.specs.List.{prefix_len}
 use Rattle.std.proofs.lemmas.List.Folds.{length-prefix_len}
-use Rattle.std.proofs.lemmas.List.Sums.{prefix_len_passes}
 use Rattle.text.specs.Reading.{front, is_hex, hex_end}
 
 module _ (f : ℕ → Bool) where
@@ -47,11 +46,6 @@ module _ (f : ℕ → Bool) where
 
   pub length-front : (l : List ℕ) → prefix_len f l ≡ length (front f l)
   length-front l = sym (length-prefix_len f l) ∙ ap length (front_taken l)
-
-  pub front_passes : (l : List ℕ) (i : ℕ) → i < length (front f l) → f (get_or (front f l) i 0) ≡ true
-  front_passes l i h =
-      let k : i < prefix_len f l = omega (arith, length-front l) in
-      sym (ap (λ (x : List ℕ). f (get_or x i 0)) (front_taken l)) ∙ ap f (get_or-take (prefix_len f l) l i 0 k) ∙ prefix_len_passes f l i 0 k
 
   -- the front that begins at a place ends within the list
   pub front_inside : (l : List ℕ) (i : ℕ) → i ≤ length l → i + length (front f (drop i l)) ≤ length l

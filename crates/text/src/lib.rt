@@ -9,14 +9,16 @@ pub mod lines;
 pub mod reading;
 pub mod scan;
 
-// The bytes as they are.
+// The bytes as they are, one by one: `copy_from_slice` would call memmove, and of the C library an archive calls memcpy and
+// memset alone.
 pub fn put(out: &mut [u8], at: usize, bytes: &[u8]) -> usize
     requires { at + length bytes.now ≤ length out.old }
     ensures { text.Appended out.old at out.new result bytes.now }
 {
-    let to = at + bytes.len();
-    out[at..to].copy_from_slice(bytes);
-    to
+    for i in 0..bytes.len() {
+        out[at + i] = bytes[i];
+    }
+    at + bytes.len()
 }
 
 // n in decimal: one digit, and `more` others at most.

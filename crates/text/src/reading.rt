@@ -23,15 +23,6 @@ pub fn digit_at(line: &[u8], i: usize) -> bool
     line.get(i).is_some_and(|c| c.is_ascii_digit())
 }
 
-// The longest front of digits.
-fn digits_from(line: &[u8]) -> &[u8]
-    ensures value { result.now ≡ reading.front reading.is_digit line.now }
-    ensures within { length result.now ≤ length line.now }
-{
-    let n = line.iter().take_while(|c| c.is_ascii_digit()).count();
-    &line[..n]
-}
-
 // A number of at least one digit, and at most `most`; else the column of the first byte that does not fit.
 pub fn number_at(line: &[u8], at: usize, most: u32) -> Result<Number, usize>
     requires { at ≤ length line.now }
@@ -39,20 +30,22 @@ pub fn number_at(line: &[u8], at: usize, most: u32) -> Result<Number, usize>
     ensures within { IfOk result (λ n. (n.next ≤ length line.now) × (n.value ≤ most)) }
 {
     let bound = u64::from(most);
-    let digits = digits_from(&line[at..]);
     let mut value: u64 = 0;
-    for c in digits {
+    let mut left = &line[at..];
+    while let [c @ b'0'..=b'9', rest @ ..] = left {
         value = 10 * value + u64::from(*c - b'0');
         if bound < value {
             return Err(at + 1);
         }
+        left = rest;
     }
-    if digits.is_empty() {
+    let next = line.len() - left.len();
+    if next == at {
         return Err(at + 1);
     }
     Ok(Number {
         value: value as u32,
-        next: at + digits.len(),
+        next,
     })
 }
 

@@ -24,6 +24,17 @@ pub fn put_number<const N: usize>(m: &mut [u8], at: usize, x: u32)
     m[at..at + N].copy_from_slice(&bytes[..N]);
 }
 
+// Copies `from` over `to`, which is as long. By index: `copy_from_slice` of a length that is not a constant calls `memmove`, and of the
+// C library an archive calls `memcpy` and `memset` alone.
+pub fn copy(from: &[u8], to: &mut [u8])
+    requires { length from.now ≡ length to.old }
+    ensures { to.new ≡ from.now }
+{
+    for i in 0..from.len() {
+        to[i] = from[i];
+    }
+}
+
 // Copies page x of `from` over page y of `to`.
 pub fn copy_page(from: &[u8], x: usize, to: &mut [u8], y: usize)
     requires { (4096 * x + 4096 ≤ length from.now) × (4096 * y + 4096 ≤ length to.old) }
@@ -31,7 +42,7 @@ pub fn copy_page(from: &[u8], x: usize, to: &mut [u8], y: usize)
 {
     let start = 4096 * x;
     let first = 4096 * y;
-    to[first..first + 4096].copy_from_slice(&from[start..start + 4096]);
+    copy(&from[start..start + 4096], &mut to[first..first + 4096]);
 }
 
 // Whether page x of a and page y of b are equal.

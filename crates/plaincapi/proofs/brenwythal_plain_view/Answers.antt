@@ -17,4 +17,4 @@ returns-then-part-ne-PAGE c =
 pub returns : goal.returns
 returns c =
     view_done _ _ _ _ _ (search rules) (search rules) _ c.plain_of-m.ensures _ c.page_view-part.ensures.bytes
-    (search rules) _ c.copy_from_slice.ensures.after
+    (search rules) _ c.copy.ensures

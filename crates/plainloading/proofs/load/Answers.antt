@@ -1,5 +1,4 @@
 -- `load`: refused by the image, refused for a lent length, or loaded.
-use Rattle.std.proofs.Common.{sym}
 use Rattle.plainloading.proofs.Loads.{not_image, no_room, pages_fit, rights_fit, loaded}
 use Rattle.plainloading.proofs.load.Goals as goal
 
@@ -15,10 +14,11 @@ fill_pages-requires c =
     pages_fit a.file.now a.memory.now a.rights.now _ c.in-Ok.ensures
     _ c.room.ensures c.if-not-room.false _ c.pages.ensures.bytes
 
-pub copy_from_slice-requires : goal.copy_from_slice-requires
-copy_from_slice-requires c =
+pub copy-requires : goal.copy-requires
+copy-requires c =
     let a = c.args in
-    sym (rights_fit a.file.now a.memory.now a.rights.now _ c.in-Ok.ensures _ c.room.ensures c.if-not-room.false _ c.rights.ensures.bytes)
+    rights_fit a.file.now a.memory.now a.rights.now _ c.in-Ok.ensures
+    _ c.room.ensures c.if-not-room.false _ c.rights.ensures.bytes
 
 pub returns-in-Err : goal.returns-in-Err
 returns-in-Err c =
@@ -31,4 +31,4 @@ returns-else-not-room c =
     let a = c.args in
     loaded a.file.now a.memory.now a.rights.now _ c.in-Ok.ensures
     _ c.room.ensures c.if-not-room.false _ c.plain.ensures _ _ _ _ c.pages.ensures.bytes c.rights.ensures.bytes
-    c.fill_pages.ensures c.copy_from_slice.ensures.after
+    c.fill_pages.ensures c.copy.ensures

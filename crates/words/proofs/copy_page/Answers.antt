@@ -10,5 +10,5 @@ pub returns : goal.returns
 returns c =
     let a = c.args in
     ap (λ p. put_mid (4096 * a.y) (4096 * a.y + 4096 - 4096 * a.y) a.to.now p)
-    (c.copy_from_slice.ensures.after ∙ part_page a.from.now a.x)
+    (c.copy.ensures ∙ part_page a.from.now a.x)
     ∙ part_with_page a.to.now a.y (page a.from.now a.x)

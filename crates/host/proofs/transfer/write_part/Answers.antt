@@ -16,8 +16,8 @@ overflow_add-end c =
     main_within a.s a.main.now a.swap.now c.requires.0 a.va (length a.from.now) c.requires.1 c.requires.2 _ c.in-Main.ensures _ refl in
     omega arith
 
-pub slice_bounds-copy_from_slice-end : goal.slice_bounds-copy_from_slice-end
-slice_bounds-copy_from_slice-end c =
+pub slice_bounds-copy-end : goal.slice_bounds-copy-end
+slice_bounds-copy-end c =
     let a = c.args in
     main_within a.s a.main.now a.swap.now c.requires.0 a.va (length a.from.now) c.requires.1 c.requires.2 _ c.in-Main.ensures _ refl
 
@@ -28,15 +28,15 @@ overflow_add-end-in-Swap c =
     swap_within a.s a.main.now a.swap.now c.requires.0 a.va (length a.from.now) c.requires.1 c.requires.2 _ c.in-Swap.ensures _ refl in
     omega arith
 
-pub slice_bounds-copy_from_slice-end-in-Swap : goal.slice_bounds-copy_from_slice-end-in-Swap
-slice_bounds-copy_from_slice-end-in-Swap c =
+pub slice_bounds-copy-end-in-Swap : goal.slice_bounds-copy-end-in-Swap
+slice_bounds-copy-end-in-Swap c =
     let a = c.args in
     swap_within a.s a.main.now a.swap.now c.requires.0 a.va (length a.from.now) c.requires.1 c.requires.2 _ c.in-Swap.ensures _ refl
 
 pub returns-in-Main : goal.returns-in-Main
 returns-in-Main c =
-    main_written _ _ _ c.requires.0 _ _ c.requires.1 c.requires.2 _ c.in-Main.ensures _ refl _ refl _ c.copy_from_slice.ensures.after
+    main_written _ _ _ c.requires.0 _ _ c.requires.1 c.requires.2 _ c.in-Main.ensures _ refl _ refl _ c.copy.ensures
 
 pub returns-in-Swap : goal.returns-in-Swap
 returns-in-Swap c =
-    swap_written _ _ _ c.requires.0 _ _ c.requires.1 c.requires.2 _ c.in-Swap.ensures _ refl _ refl _ c.copy_from_slice-in-Swap.ensures.after
+    swap_written _ _ _ c.requires.0 _ _ c.requires.1 c.requires.2 _ c.in-Swap.ensures _ refl _ refl _ c.copy-in-Swap.ensures

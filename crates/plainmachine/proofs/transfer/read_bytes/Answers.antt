@@ -8,10 +8,10 @@ returns-then-into-eq0 c =
     let a = c.args in
     read_none a.into.now a.memory.now a.va (omega arith)
 
-pub slice_bounds-copy_from_slice-end : goal.slice_bounds-copy_from_slice-end
-slice_bounds-copy_from_slice-end c = omega (arith, c.requires (omega arith))
+pub slice_bounds-copy-end : goal.slice_bounds-copy-end
+slice_bounds-copy-end c = omega (arith, c.requires (omega arith))
 
 pub returns : goal.returns
 returns c =
     let a = c.args in
-    read_part a.memory.now _ a.va _ c.copy_from_slice.ensures.after
+    read_part a.memory.now _ a.va _ c.copy.ensures

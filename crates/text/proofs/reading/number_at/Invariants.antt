@@ -1,9 +1,10 @@
--- `reading::number_at`: what is left of the digits, behind the value so far, says the same number.
-use mathlib.Core.Path.{◌≡◌}
-use Prim.Native.Nat.{◌≤◌}
-use lib.ListN.{drop}
-use Rattle.text.specs.Reading.{decimal}
+-- `reading::number_at`: `Reading` holds after each digit.
+use lib.ListN.{length}
+use Rattle.text.proofs.Numbers.{Reading}
 use Rattle.text.proofs.reading.number_at.Given as goal
 
-abbrev pub invariant-loop-c : goal.invariant-loop-c
-invariant-loop-c l = (l.value ≤ l.most) × (decimal l.value (drop l.c-index l.digits) ≡ decimal 0 l.digits)
+abbrev pub invariant-loop-left : goal.invariant-loop-left
+invariant-loop-left l = Reading l.line l.at l.most l.value l.left
+
+abbrev pub decreases-loop-left : goal.decreases-loop-left
+decreases-loop-left l = length l.left

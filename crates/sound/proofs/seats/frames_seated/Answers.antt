@@ -1,5 +1,5 @@
 -- `seats::frames_seated`: the first f pages are in the table, and seated.
-use mathlib.Core.Path.{◌≡◌, sym, ap, ◌∙◌}
+use mathlib.Core.Path.{◌≡◌, sym, ap}
 use borrow.Author.Tests.{eqb-true, not-false}
 use Rattle.model.specs.Pages.{frame_at}
 use Rattle.model.specs.Table.{ppx}
@@ -20,7 +20,7 @@ loop-f-preserved c =
     let a = c.args in
     let i = c.loop-f.f in
     let e : (ppx c.entry-e.result).0 ≡ (frame_at a.s i).0 =
-    sym (ap (λ p. p.0) c.ppx.ensures) ∙ eqb-true _ _ (not-false _ (sym c.if-ne.ensures)) ∙ ap (λ p. p.0) c.frame_at.ensures in (
+    omega (arith, ap (λ p. p.0) c.ppx.ensures, eqb-true _ _ (not-false _ (sym c.if-ne.ensures)), ap (λ p. p.0) c.frame_at.ensures) in (
       one_more _ _ c.loop-f.invariant.0 (page_within a.s a.used a.held.now a.main.now i (search rules)),
       one_more _ _ c.loop-f.invariant.1 (seat_there a.s a.used a.held.now a.main.now i _ c.virtual_page.ensures _ c.entry-e.ensures (omega arith) e),
     )
